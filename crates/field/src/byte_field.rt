@@ -54,6 +54,7 @@ fn element_of(value: u8) -> Byte
     Byte { value }
 }
 
+#[derive(Clone, Copy)]
 pub struct ByteField;
 
 pub impl Field for ByteField as ByteFieldField {

@@ -23,6 +23,7 @@ fn reduced(n: u32) -> Residue
     }
 }
 
+#[derive(Clone, Copy)]
 pub struct PrimeField;
 
 pub impl Field for PrimeField as PrimeFieldField {

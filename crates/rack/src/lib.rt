@@ -1,0 +1,13 @@
+// Racks of nodes behind one trait.
+pub mod node;
+pub mod table;
+pub mod table_error;
+pub mod the_rack;
+
+pub use node::Node;
+pub use table::TableRack;
+pub use table::calls::TableRackRack;
+pub use table_error::TableError;
+pub use table_error::TableErrorDebug;
+pub use table_error::TableErrorPartialEq;
+pub use the_rack::Rack;

@@ -8,7 +8,7 @@ use native.Mathlib.Numerals.{add-one}
 use native.Mathlib.Omega.{arith}
 use lib.Dec.{ltb}
 use lib.ListN.{length, getD, take}
-use Rattle.std.proofs.shelf.Lists.{length-push, getD-push, getD-append-left, length-take-le, getD-take}
+use Rattle.std.proofs.shelf.Lists.{length-push, getD-push, getD-append-left, length-take-le, getD-take, take-more}
 use Rattle.std.proofs.shelf.Tests.{and-from, and-parts, both-ways, cases-bool, cases-eq, ltb-true, lt-ltb}
 use Rattle.shape.specs.Outages.{every, rising}
 use Rattle.shape.proofs.Every.{every-at, every-from}
@@ -61,6 +61,12 @@ rising-take n k xs h e =
     rising-from n (take k xs) (λ j l. let a : j < k = omega arith in rw getD-take (rising-below n xs e j (omega arith)))
     (λ j l. let a : j < k = omega arith in let b : j + 1 < k = omega arith in rw (getD-take k xs j 0 a, getD-take k xs (j + 1) 0 b) (rising-next n xs e j (omega arith)))
 
+-- a list with a front that does not rise
+pub rising-refused : (n k : ℕ) (xs : List ℕ) → k < length xs → rising n (take k xs ++ getD xs k 0 ∷ []) ≡ false → rising n xs ≡ false
+rising-refused n k xs h e =
+    let m : k + 1 ≤ length xs = omega arith in
+    ⊎-elim (λ r. absurd (both-ways (rising n (take (k + 1) xs)) (ap (rising n) (take-more xs k 0 h) ∙ e) (rising-take n (k + 1) xs m r))) (λ r. r) (cases-bool (rising n xs))
+
 -- one number more
 module _ (n : ℕ) (xs : List ℕ) (x : ℕ) where
   before : (j : ℕ) → j < length xs → getD (xs ++ x ∷ []) j 0 ≡ getD xs j 0
@@ -93,3 +99,12 @@ module _ (n : ℕ) (xs : List ℕ) (x : ℕ) where
 
   pub rising-push-not : (rising n (xs ++ x ∷ []) ≡ true → ⊥) → rising n (xs ++ x ∷ []) ≡ false
   rising-push-not h = ⊎-elim (λ e. absurd (h e)) (λ e. e) (cases-bool (rising n (xs ++ x ∷ [])))
+
+  pub rising-push-high : n ≤ x → rising n (xs ++ x ∷ []) ≡ false
+  rising-push-high h = rising-push-not (λ e. let a = rising-push-below e in omega arith)
+
+  pub rising-push-is : rising n xs ≡ true → x < n → 0 < length xs → ltb (getD xs (length xs - 1) 0) x ≡ rising n (xs ++ x ∷ [])
+  rising-push-is e low some =
+      ⊎-elim (λ t. t ∙ sym (rising-push e low (λ l. ltb-true (getD xs (length xs - 1) 0) x t)))
+      (λ f. f ∙ sym (rising-push-not (λ r. both-ways (ltb (getD xs (length xs - 1) 0) x) f (lt-ltb (getD xs (length xs - 1) 0) x (rising-push-after r some)))))
+      (cases-bool (ltb (getD xs (length xs - 1) 0) x))

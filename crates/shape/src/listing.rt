@@ -26,12 +26,25 @@ impl OutageList {
         }
     }
 
+    // Whether the list still rises with one number more.
+    fn admits(&self, node: usize) -> bool
+        ensures { λ r. ⌜ r ≡ rising (now (self .entry) .count) (outages (now (self .entry)) ++ node ∷ []) ⌝ }
+    {
+        if node >= self.count {
+            return false;
+        }
+        if self.len == 0 {
+            return true;
+        }
+        self.numbers[self.len - 1] < node
+    }
+
     // One number more, refused where the list would not rise or there is no such node.
     pub fn push(&mut self, node: usize) -> Result<(), Refusal>
         ensures count { λ r. ⌜ now (self .exit) .count ≡ now (self .entry) .count ⌝ }
         ensures list { λ r. ⌜ Cases r (λ _. outages (now (self .exit)) ≡ outages (now (self .entry)) ++ node ∷ []) (λ e. (e ≡ reason.NoSuchPlace) × (outages (now (self .exit)) ≡ outages (now (self .entry))) × (rising (now (self .entry) .count) (outages (now (self .entry)) ++ node ∷ []) ≡ false)) ⌝ }
     {
-        if node >= self.count || self.len > 0 && self.numbers[self.len - 1] >= node {
+        if !self.admits(node) {
             return Err(Refusal::NoSuchPlace);
         }
         self.numbers[self.len] = node;

@@ -1,0 +1,5 @@
+pub mod Refusing
+pub mod Tallies
+pub mod Invariant
+
+pub mod Promises

@@ -1,0 +1,13 @@
+// The vault: one message, coded over the nodes of one rack.
+pub mod answer;
+pub mod calls;
+pub mod owner;
+pub mod reading;
+mod selection;
+mod steps;
+
+pub use answer::Answer;
+pub use answer::AnswerDebug;
+pub use answer::AnswerPartialEq;
+pub use owner::NotOpened;
+pub use owner::Vault;

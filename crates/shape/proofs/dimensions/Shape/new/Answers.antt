@@ -6,9 +6,10 @@ use Rattle.shape.proofs.dimensions.Shape.new.Needs.{then-q-lt2·by·then-q-lt2
 
 pub returns-then-q-lt2 : need.returns-then-q-lt2
 returns-then-q-lt2 c = (
-  no-shape (c .args .q) (c .args .t) (λ s.
-      let a = rows-bound (c .args .q) (c .args .t) (s .wide) (s .deep) (s .few) in
-      let b = columns-bound (c .args .q) (c .args .t) (s .wide) (s .deep) (s .few) in
+  no-shape (c .args .q) (c .args .t)
+      (λ s.
+      let a = rows-bound s in
+      let b = columns-bound s in
       elim (c .then-q-lt2 .came) [
         | then-q-lt2·by·then-q-lt2 w ↦ omega arith
         | then-q-lt2·by·else-q-lt2·then-t-lt2 w ↦ omega arith

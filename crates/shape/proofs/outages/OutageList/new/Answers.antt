@@ -22,8 +22,8 @@ returns-in-Break-push c =
 pub loop-node-again : need.loop-node-again
 loop-node-again c =
     let r = c .in-Continue-push .ensures tt in
-    let e = take-more (c .args .nodes .now) (c .loop-node .node-index) 0 (c .loop-node-test .taken) in
-    (r .count ∙ c .loop-node .inv .0, r .list ∙ ap (λ xs. xs ++ getD (c .args .nodes .now) (c .loop-node .node-index) 0 ∷ []) (c .loop-node .inv .1) ∙ sym e)
+    let k = take-more (c .args .nodes .now) (c .loop-node .node-index) 0 (c .loop-node-test .taken) in
+    (cc, cc)
 
 pub returns : need.returns
 returns c =

@@ -51,10 +51,10 @@ module _ (q : ℕ) (pos : 0 < q) where
 
   pub digit-with-other : (p y x y′ : ℕ) → x < q → y ≢ y′ → digit q (with-digit q p y x) y′ ≡ digit q p y′
   digit-with-other p zero x zero h ne = absurd (ne refl)
-  digit-with-other p zero x (suc y′) h ne = rw (digit-suc, digit-suc, with-zero, digits-div (p / q) h)
-  digit-with-other p (suc y) x zero h ne = rw (digit-zero, digit-zero, with-suc) (digits-mod (with-digit q (p / q) y x) (mod-lt p pos))
+  digit-with-other p zero x (suc y′) h ne = rw (digit-suc (with-digit q p zero x) y′, digit-suc p y′, with-zero, digits-div (p / q) h)
+  digit-with-other p (suc y) x zero h ne = rw (digit-zero (with-digit q p (suc y) x), digit-zero p, with-suc) (digits-mod (with-digit q (p / q) y x) (mod-lt p pos))
   digit-with-other p (suc y) x (suc y′) h ne =
-      rw (digit-suc, digit-suc, with-suc, digits-div (with-digit q (p / q) y x) (mod-lt p pos)) (digit-with-other (p / q) y x y′ h (λ e. ne (ap suc e)))
+      rw (digit-suc (with-digit q p (suc y) x) y′, digit-suc p y′, with-suc, digits-div (with-digit q (p / q) y x) (mod-lt p pos)) (digit-with-other (p / q) y x y′ h (λ e. ne (ap suc e)))
 
   pub with-own : (p y : ℕ) → with-digit q p y (digit q p y) ≡ p
   with-own p y = let e = with-sum p y (digit q p y) in omega arith

@@ -1,12 +1,13 @@
 -- What is among the numbers of a list. Assumes nothing.
 use mathlib.Core.Path.{_≡_, refl, sym, ap, _∙_}
 use mathlib.Core.Logic.{⊎-elim}
-use mathlib.Core.Bool.{Bool, true, false, cond}
-use mathlib.Core.List.{List, [], _∷_}
-use Prim.Native.Nat.{ℕ, zero, suc, _+_, _≤_, _<_}
+use mathlib.Core.Bool.{true, false, cond}
+use mathlib.Core.List.{List, [], _∷_, _++_}
+use Prim.Native.Nat.{ℕ, zero, suc, _<_}
 use native.Mathlib.Omega.{arith}
 use lib.Dec.{eqb}
 use lib.ListN.{length, getD}
+use Rattle.std.proofs.shelf.Lists.{getD-push, length-push}
 use Rattle.std.proofs.shelf.Tests.{both-ways, cases-bool, cases-eq, cond-true, cond-false, eq-eqb, ne-eqb}
 use Rattle.shape.specs.Outages.{among}
 
@@ -29,3 +30,11 @@ among-found (j ∷ js) i e =
 
 pub among-none : (js : List ℕ) (i : ℕ) → ((k : ℕ) → k < length js → getD js k 0 ≡ i → ⊥) → among js i ≡ false
 among-none js i h = ⊎-elim (λ e. let r = among-found js i e in absurd (h (r .0) (r .1) (r .2))) (λ e. e) (cases-bool (among js i))
+
+-- one number more at the end
+pub among-push-same : (js : List ℕ) (i : ℕ) → among (js ++ i ∷ []) i ≡ true
+among-push-same js i = let l = length-push js i in among-at (js ++ i ∷ []) (length js) i (omega arith) (getD-push js i 0 (length js) refl)
+
+pub among-push-other : (js : List ℕ) (j i : ℕ) → (i ≡ j → ⊥) → among (js ++ j ∷ []) i ≡ among js i
+among-push-other [] j i ne = among-rest j [] i ne
+among-push-other (k ∷ js) j i ne = ap (λ b. cond (eqb i k) true b) (among-push-other js j i ne)

@@ -2,11 +2,12 @@
 use mathlib.Core.Path.{_≡_, refl, sym, _∙_}
 use mathlib.Core.Logic.{⊎-elim}
 use mathlib.Core.Bool.{Bool, true, false, cond, _&&_}
-use Prim.Native.Nat.{ℕ, _+_, _-_, _*_, _^_, _≤_, _<_}
+use Prim.Native.Nat.{ℕ, _-_, _*_, _^_, _≤_, _<_}
 use native.Mathlib.Nat.{mul-le-mul, mul-le-mul-left, mul-le-mul-right, pow-le-pow-right}
 use native.Mathlib.Omega.{arith}
 use lib.Dec.{leb}
-use Rattle.std.proofs.shelf.Tests.{and-from, and-parts, both-ways, cases-bool, cond-true, leb-true, le-leb}
+use Rattle.std.proofs.shelf.Tests.{and-from, and-parts, cases-bool, cond-true, leb-true, le-leb}
+use Rattle.shape.specs.declared.dimensions.Shape.{Shape}
 use Rattle.shape.specs.Layout.{is-shape}
 use Rattle.shape.specs.Outages.{every}
 use Rattle.shape.proofs.Every.{every-at}
@@ -19,15 +20,27 @@ tested : every (λ q. every (few-places q) 9) 9 ≡ true
 unfolding every
 tested = refl
 
-module _ (q t : ℕ) (wide : 2 ≤ q) (deep : 2 ≤ t) (few : q * t ≤ 16) where
+-- q rows and t columns are a shape
+pub record Shaped (q t : ℕ) : Type 0 where
+  pub wide : 2 ≤ q
+  pub deep : 2 ≤ t
+  pub few : q * t ≤ 16
+
+pub shaped : (s : Shape) → Shaped (s .q) (s .t)
+shaped s = record { wide = s .wide; deep = s .deep; few = s .few }
+
+module _ {q t : ℕ} (s : Shaped q t) where
   pub shape-from : is-shape q t ≡ true
-  shape-from = and-from (leb 2 q && leb 2 t) (leb (q * t) 16) (and-from (leb 2 q) (leb 2 t) (le-leb 2 q wide) (le-leb 2 t deep)) (le-leb (q * t) 16 few)
+  shape-from = and-from (leb 2 q && leb 2 t) (leb (q * t) 16) (and-from (leb 2 q) (leb 2 t) (le-leb 2 q (s .wide)) (le-leb 2 t (s .deep))) (le-leb (q * t) 16 (s .few))
+
+  pub rows-positive : 0 < q
+  rows-positive = omega arith
 
   pub rows-bound : q ≤ 8
-  rows-bound = let a = mul-le-mul-left q deep in omega arith
+  rows-bound = let a = mul-le-mul-left q (s .deep) in omega arith
 
   pub columns-bound : t ≤ 8
-  columns-bound = let a = mul-le-mul-right t wide in omega arith
+  columns-bound = let a = mul-le-mul-right t (s .wide) in omega arith
 
   pub places-bound : q ^ t ≤ 256
   places-bound =
@@ -44,15 +57,10 @@ module _ (q t : ℕ) (wide : 2 ≤ q) (deep : 2 ≤ t) (few : q * t ≤ 16) wher
   data-bound = let l : t - 1 ≤ t = omega arith in let a = mul-le-mul-left q l in omega arith
 
   pub words-bound : q * t * q ^ t ≤ 4096
-  words-bound = mul-le-mul few places-bound
+  words-bound = mul-le-mul (s .few) places-bound
 
   pub message-bound : q * (t - 1) * q ^ t ≤ 4096
   message-bound = mul-le-mul data-bound places-bound
-
-pub record Shaped (q t : ℕ) : Type 0 where
-  pub wide : 2 ≤ q
-  pub deep : 2 ≤ t
-  pub few : q * t ≤ 16
 
 pub shape-parts : (q t : ℕ) → is-shape q t ≡ true → Shaped q t
 shape-parts q t e =

@@ -1,7 +1,7 @@
 -- Strictly rising lists. Assumes nothing.
 use mathlib.Core.Path.{_≡_, refl, sym, ap, _∙_}
 use mathlib.Core.Logic.{⊎-elim}
-use mathlib.Core.Bool.{Bool, true, false, cond, _&&_}
+use mathlib.Core.Bool.{true, false}
 use mathlib.Core.List.{List, [], _∷_, _++_}
 use Prim.Native.Nat.{ℕ, zero, suc, _+_, _-_, _≤_, _<_}
 use native.Mathlib.Numerals.{add-one}
@@ -10,7 +10,9 @@ use lib.Dec.{ltb}
 use lib.ListN.{length, getD, take}
 use Rattle.std.proofs.shelf.Lists.{length-push, getD-push, getD-append-left, length-take-le, getD-take, take-more}
 use Rattle.std.proofs.shelf.Tests.{and-from, and-parts, both-ways, cases-bool, cases-eq, ltb-true, lt-ltb}
-use Rattle.shape.specs.Outages.{every, rising}
+use Rattle.shape.specs.Outages.{count, every, rising, among, Distinct}
+use Rattle.shape.proofs.Among.{among-rest, among-found, among-none}
+use Rattle.shape.proofs.Counts.{count-among}
 use Rattle.shape.proofs.Every.{every-at, every-from}
 
 pub rising-below : (n : ℕ) (xs : List ℕ) → rising n xs ≡ true → (j : ℕ) → j < length xs → getD xs j 0 < n
@@ -53,6 +55,38 @@ rising-length n xs e =
     ⊎-elim (λ z. omega arith)
     (λ ne. let l : length xs - 1 < length xs = omega arith in let a = rising-index n xs e (length xs - 1) l in let b = rising-below n xs e (length xs - 1) l in omega arith)
     (cases-eq (length xs) 0)
+
+-- with the bound raised
+pub rising-wider : (m n : ℕ) (xs : List ℕ) → m ≤ n → rising m xs ≡ true → rising n xs ≡ true
+rising-wider m n xs h e = rising-from n xs (λ j l. let a = rising-below m xs e j l in omega arith) (rising-next m xs e)
+
+-- without the first number
+pub rising-rest : (n x : ℕ) (xs : List ℕ) → rising n (x ∷ xs) ≡ true → rising n xs ≡ true
+rising-rest n x xs e =
+    rising-from n xs (λ j l. rising-below n (x ∷ xs) e (suc j) (omega arith)) (λ j l. rising-order n (x ∷ xs) e (suc j) (suc (j + 1)) (omega arith) (omega arith))
+
+-- the first number is the least
+pub rising-first : (n x : ℕ) (xs : List ℕ) → rising n (x ∷ xs) ≡ true → (i : ℕ) → among xs i ≡ true → x < i
+rising-first n x xs e i h = let r = among-found xs i h in let a = rising-order n (x ∷ xs) e 0 (suc (r .0)) (omega arith) (omega arith) in omega (arith, r .2)
+
+pub rising-least : (n x : ℕ) (xs : List ℕ) → rising n (x ∷ xs) ≡ true → (i : ℕ) → among (x ∷ xs) i ≡ true → x ≤ i
+rising-least n x xs e i h = ⊎-elim (λ k. omega arith) (λ k. let a = rising-first n x xs e i (sym (among-rest x xs i k) ∙ h) in omega arith) (cases-eq i x)
+
+-- none comes twice
+pub rising-distinct : (n : ℕ) (xs : List ℕ) → rising n xs ≡ true → Distinct xs n
+rising-distinct n [] e = tt
+rising-distinct n (x ∷ xs) e =
+    (rising-below n (x ∷ xs) e 0 (omega arith), among-none xs x (λ k l h. let a = rising-order n (x ∷ xs) e 0 (suc k) (omega arith) (omega arith) in omega arith), rising-distinct n xs (rising-rest n x xs e))
+
+pub rising-count : (n : ℕ) (xs : List ℕ) → rising n xs ≡ true → count (among xs) n ≡ length xs
+rising-count n xs e = count-among xs n (rising-distinct n xs e)
+
+-- what is among the numbers is below the bound
+pub rising-member : (n : ℕ) (xs : List ℕ) → rising n xs ≡ true → (i : ℕ) → among xs i ≡ true → i < n
+rising-member n xs e i h = let r = among-found xs i h in let a = rising-below n xs e (r .0) (r .1) in omega (arith, r .2)
+
+pub rising-high : (n : ℕ) (xs : List ℕ) → rising n xs ≡ true → (i : ℕ) → n ≤ i → among xs i ≡ false
+rising-high n xs e i h = ⊎-elim (λ t. absurd (let a = rising-member n xs e i t in omega arith)) (λ f. f) (cases-bool (among xs i))
 
 -- a front of a rising list
 pub rising-take : (n k : ℕ) (xs : List ℕ) → k ≤ length xs → rising n xs ≡ true → rising n (take k xs) ≡ true

@@ -1,7 +1,8 @@
 -- Lists of nodes that are out. Assumes nothing.
+use mathlib.Core.Path.{_≡_}
 use mathlib.Core.Bool.{Bool, true, false, cond, _&&_}
 use mathlib.Core.List.{List, [], _∷_, _++_}
-use Prim.Native.Nat.{ℕ, zero, suc, _+_, _-_}
+use Prim.Native.Nat.{ℕ, zero, suc, _+_, _-_, _<_}
 use lib.Dec.{eqb, ltb}
 use lib.ListN.{length, getD}
 
@@ -28,3 +29,8 @@ rising n nodes = every (λ j. ltb (getD nodes j 0) n) (length nodes) && every (�
 abbrev pub among : List ℕ → ℕ → Bool
 among [] i = false
 among (j ∷ js) i = cond (eqb i j) true (among js i)
+
+-- the numbers are below n, and none comes twice
+abbrev pub Distinct : List ℕ → ℕ → Type 0
+Distinct [] n = Unit {0}
+Distinct (j ∷ js) n = (j < n) × (among js j ≡ false) × Distinct js n

@@ -1,11 +1,11 @@
 use mathlib.Core.Path.{_≡_}
 use Prim.Native.Nat.{_*_, _^_}
 use native.Mathlib.Omega.{arith}
-use Rattle.shape.proofs.Bounds.{words-bound}
+use Rattle.shape.proofs.Bounds.{shaped, words-bound}
 use Rattle.shape.proofs.dimensions.Shape.words.Needs as need
 
 pub mul-result : need.mul-result
 mul-result c =
     let s = c .args .self in
     let e : c .nodes .result * c .places .result ≡ s .q * s .t * s .q ^ s .t = cc in
-    omega (arith, words-bound (s .q) (s .t) (s .wide) (s .deep) (s .few))
+    omega (arith, words-bound (shaped (c .args .self)))

@@ -1,9 +1,8 @@
-use mathlib.Core.Path.{_≡_, sym, ap, _∙_}
+use mathlib.Core.Path.{_≡_, _∙_}
 use mathlib.Core.Bool.{false}
 use mathlib.Core.List.{[], _∷_, _++_}
-use Prim.Native.Nat.{_*_, _<_}
-use native.Mathlib.Omega.{arith}
-use lib.ListN.{length, getD, take}
+use Prim.Native.Nat.{_*_}
+use lib.ListN.{getD, take}
 use Rattle.std.proofs.shelf.Lists.{take-all, take-more}
 use Rattle.std.proofs.shelf.Results.{err-from-errBy}
 use Rattle.shape.specs.Outages.{rising}
@@ -22,8 +21,8 @@ returns-in-Break-push c =
 pub loop-node-again : need.loop-node-again
 loop-node-again c =
     let r = c .in-Continue-push .ensures tt in
-    let e = take-more (c .args .nodes .now) (c .loop-node .node-index) 0 (c .loop-node-test .taken) in
-    (r .count ∙ c .loop-node .inv .0, r .list ∙ ap (λ xs. xs ++ getD (c .args .nodes .now) (c .loop-node .node-index) 0 ∷ []) (c .loop-node .inv .1) ∙ sym e)
+    let k = take-more (c .args .nodes .now) (c .loop-node .node-index) 0 (c .loop-node-test .taken) in
+    (cc, cc)
 
 pub returns : need.returns
 returns c =

@@ -1,0 +1,5 @@
+pub mod Code
+pub mod Reading
+pub mod Filling
+pub mod Theorems
+pub mod Calls

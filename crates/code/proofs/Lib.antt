@@ -2,3 +2,11 @@ pub mod Places
 pub mod Words
 pub mod Ring
 pub mod Sums
+pub mod Vandermonde
+pub mod Scores
+pub mod Uncoupling
+pub mod OnlyOne
+pub mod Completion
+pub mod Repair
+pub mod Gather
+pub mod Main

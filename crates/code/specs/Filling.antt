@@ -11,6 +11,10 @@ use Rattle.code.specs.Code.{minus, total, moment, uncoupled}
 unfoldable pub score : (q t : ℕ) (erased : ℕ → Bool) (p : ℕ) → ℕ
 score q t erased p = count (λ y. erased (node-at q (digit q p y) y)) t
 
+-- whether node i is in column y
+unfoldable pub in-column : (q y i : ℕ) → Bool
+in-column q y i = eqb (column q i) y
+
 module _ {E : Type 0} (f : Arith E) where
   -- the x that is zero outside the erased numbers below n and has the moments s: with the last point a erased,
   -- those of the right sides s (e + 1) - a × s e, divided by the differences from a
@@ -49,3 +53,11 @@ module _ {E : Type 0} (f : Arith E) where
   unfoldable pub complete : (q t : ℕ) (erased : ℕ → Bool) (s : ℕ) (A : ℕ → ℕ → E) (i p : ℕ) → E
   complete q t erased zero A = A
   complete q t erased (suc s) A = step q t erased s (complete q t erased s A)
+
+  -- the symbol at place p of a lost node, whose column is erased: from the solution of the plane that helps it there
+  unfoldable pub refill : (q t : ℕ) (erased : ℕ → Bool) (lost : ℕ) (A : ℕ → ℕ → E) (p : ℕ) → E
+  refill q t erased lost A p =
+      let b : ℕ → ℕ → E = solution q t erased A in
+      let c : ℕ = companion-node q lost p in
+      let d : ℕ = companion-place q lost p in
+      cond (eqb (digit q p (column q lost)) (row q lost)) (b lost p) (f .product (f .inverse (f .coupling)) (minus f (b c d) (A c d)))

@@ -10,3 +10,4 @@ pub mod Completion
 pub mod Repair
 pub mod Gather
 pub mod Main
+pub mod InPlace

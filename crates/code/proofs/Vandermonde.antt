@@ -15,7 +15,7 @@ use Rattle.code.proofs.Ring.{minus, zero-sum, one-product, product-zero, facto
 use Rattle.code.proofs.Sums.{total-same, total-zero, moment-more, moment-none, moment-same, moment-zero, moment-first, moment-next}
 
 -- a case of the last or an earlier number
-last-or : (P : ℕ → Type 0) (n : ℕ) → P n → ((i : ℕ) → i < n → P i) → (i : ℕ) → i < suc n → P i
+pub last-or : (P : ℕ → Type 0) (n : ℕ) → P n → ((i : ℕ) → i < n → P i) → (i : ℕ) → i < suc n → P i
 last-or P n here below i l = go (cases-eq i n)
   where
     go : (i ≡ n) ⊎ (i ≡ n → ⊥) → P i

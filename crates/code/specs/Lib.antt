@@ -1,5 +1,6 @@
 pub mod Code
 pub mod Reading
 pub mod Filling
+pub mod Solving
 pub mod Theorems
 pub mod Calls

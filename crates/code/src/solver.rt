@@ -2,6 +2,9 @@
 ghost use mathlib.Core.Path.{_≡_};
 ghost use Prim.Native.Nat.{_<_, _≤_};
 ghost use lib.ListN.{length, getD};
+ghost use Rattle.code.specs.Code.{total};
+ghost use Rattle.code.specs.Solving.{Codes, Divided, Kept-from, Reduced, points, reads};
+ghost use Rattle.code.specs.Theorems.{Solves};
 ghost use Rattle.shape.specs.Listing.{outages};
 use crate::arithmetic::difference;
 use crate::arithmetic::element;
@@ -23,6 +26,7 @@ fn point_at<F: Field>(out: &OutageList, index: usize) -> F::Element
 // The sum of the first n elements.
 fn sum_first<F: Field>(sides: &[u16], n: usize) -> F::Element
     requires { ⌜ n ≤ length (now sides) ⌝ }
+    ensures { λ r. ⌜ r ≡ total (F·Field .arith) (reads (F·Field .arith) (now (sides .entry))) n ⌝ }
 {
     let mut sum = F::zero();
     for i in 0..n {
@@ -34,6 +38,8 @@ fn sum_first<F: Field>(sides: &[u16], n: usize) -> F::Element
 // Takes `a` times each right side from the next one.
 fn reduce<F: Field>(a: F::Element, sides: &mut [u16], n: usize)
     requires { ⌜ n < length (now sides) ⌝ }
+    ensures reduced { λ _. ⌜ Reduced (F·Field .arith) a (now (sides .entry)) (now (sides .exit)) n ⌝ }
+    ensures kept { λ _. ⌜ Kept-from (now (sides .entry)) (now (sides .exit)) n ⌝ }
 {
     for e in 0..n {
         let next = element::<F>(sides[e + 1]);
@@ -45,6 +51,9 @@ fn reduce<F: Field>(a: F::Element, sides: &mut [u16], n: usize)
 // Divides each of the first n elements by the difference of its point from `a`.
 fn divide<F: Field>(out: &OutageList, a: F::Element, sides: &mut [u16], n: usize)
     requires { ⌜ n ≤ length (now sides) ⌝ }
+    ensures divided { λ _. ⌜ Divided (F·Field .arith) a (outages (now (out .entry))) (now (sides .entry)) (now (sides .exit)) n ⌝ }
+    ensures codes { λ _. ⌜ Codes (F·Field .arith) (now (sides .exit)) n ⌝ }
+    ensures kept { λ _. ⌜ Kept-from (now (sides .entry)) (now (sides .exit)) n ⌝ }
 {
     for k in 0..n {
         let by = F::inverse(difference::<F>(point_at::<F>(out, k), a));
@@ -54,7 +63,11 @@ fn divide<F: Field>(out: &OutageList, a: F::Element, sides: &mut [u16], n: usize
 
 // Solves the system of the first n points of a list: the first n words are its right sides, and then its solution.
 pub(crate) fn solve_first<F: Field>(out: &OutageList, sides: &mut [u16], n: usize)
-    requires { ⌜ n ≤ length (now sides) ⌝ }
+    requires room { ⌜ n ≤ length (now sides) ⌝ }
+    requires listed { ⌜ n ≤ length (outages (now out)) ⌝ }
+    ensures solves { λ _. ⌜ Solves (F·Field .arith) (points (F·Field .arith) (outages (now (out .entry)))) (reads (F·Field .arith) (now (sides .exit))) (reads (F·Field .arith) (now (sides .entry))) n ⌝ }
+    ensures codes { λ _. ⌜ Codes (F·Field .arith) (now (sides .exit)) n ⌝ }
+    ensures kept { λ _. ⌜ Kept-from (now (sides .entry)) (now (sides .exit)) n ⌝ }
 {
     if n > 0 {
         let last = n - 1;

@@ -11,3 +11,5 @@ pub mod Repair
 pub mod Gather
 pub mod Main
 pub mod InPlace
+pub mod Codes
+pub mod Solutions

@@ -2,6 +2,7 @@
 ghost use mathlib.Core.Path.{_≡_};
 ghost use Prim.Native.Nat.{_<_, _≤_};
 ghost use lib.ListN.{length, getD};
+ghost use Rattle.code.specs.Calls.{Solved};
 ghost use Rattle.code.specs.Code.{total};
 ghost use Rattle.code.specs.Solving.{Codes, Divided, Kept-from, Reduced, points, reads};
 ghost use Rattle.code.specs.Theorems.{Solves};
@@ -83,7 +84,9 @@ pub(crate) fn solve_first<F: Field>(out: &OutageList, sides: &mut [u16], n: usiz
 
 // Finds the only codes x with the moments that the first words are: word e is the sum over the listed nodes of point^e times x.
 // The words are then those codes.
-pub fn solve<F: Field>(out: &OutageList, sides: &mut [u16]) -> Result<(), Refusal> {
+pub fn solve<F: Field>(out: &OutageList, sides: &mut [u16]) -> Result<(), Refusal>
+    ensures { λ r. ⌜ Solved (F·Field .arith) (outages (now (out .entry))) (now (sides .entry)) r (now (sides .exit)) ⌝ }
+{
     let n = out.len();
     if sides.len() < n {
         return Err(Refusal::WorkSpace);

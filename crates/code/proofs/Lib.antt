@@ -9,6 +9,7 @@ pub mod OnlyOne
 pub mod Completion
 pub mod Repair
 pub mod Gather
+pub mod Arrays
 pub mod Main
 pub mod InPlace
 pub mod Codes

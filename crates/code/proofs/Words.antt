@@ -1,5 +1,5 @@
 -- Words as elements. Assumes nothing.
-use mathlib.Core.Path.{_≡_, _∙_}
+use mathlib.Core.Path.{_≡_, sym, ap, _∙_}
 use Prim.Native.Nat.{ℕ, _<_, _≤_}
 use lib.Dec.{ltb}
 use Rattle.std.proofs.shelf.Tests.{cond-true, cond-false, lt-ltb, le-ltb}
@@ -18,3 +18,7 @@ module _ {E : Type 0} (f : Arith E) where
   -- what is written is read
   pub read-written : Laws f → (a : E) → read f (f .code a) ≡ a
   read-written laws a = read-code (f .code a) (laws .code-below a) ∙ laws .of-code a
+
+  -- code 0 is zero's alone
+  pub zero-from : Laws f → (a : E) → f .code a ≡ 0 → a ≡ f .zero
+  zero-from laws a e = sym (laws .of-code a) ∙ ap (f .of) (e ∙ sym (laws .zero-code)) ∙ laws .of-code (f .zero)

@@ -14,3 +14,5 @@ pub mod Main
 pub mod InPlace
 pub mod Codes
 pub mod Solutions
+pub mod PlaneSolution
+pub mod Writes

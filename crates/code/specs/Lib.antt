@@ -4,3 +4,4 @@ pub mod Filling
 pub mod Solving
 pub mod Theorems
 pub mod Calls
+pub mod Steps

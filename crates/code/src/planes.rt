@@ -1,8 +1,10 @@
 // One plane of an array: its score, and the uncoupled symbols of the nodes that are out.
 ghost use mathlib.Core.Path.{_≡_};
-ghost use Prim.Native.Nat.{_*_, _^_, _<_, _≤_};
-ghost use lib.ListN.{length};
+ghost use Prim.Native.Nat.{ℕ, _*_, _^_, _<_, _≤_};
+ghost use lib.ListN.{length, getD};
 ghost use Rattle.code.specs.Filling.{score};
+ghost use Rattle.code.specs.Reading.{symbols};
+ghost use Rattle.code.specs.Steps.{Holds-solution, PlaneSolved, Sound, lacks};
 ghost use Rattle.shape.specs.Listing.{outages};
 ghost use Rattle.shape.specs.Outages.{among};
 use crate::arithmetic::element;
@@ -30,6 +32,7 @@ pub(crate) fn score(shape: Shape, out: &OutageList, place: usize) -> usize
 fn plane_sides<F: Field>(shape: Shape, out: &OutageList, words: &[u16], place: usize) -> [u16; 16]
     requires place { ⌜ place < shape .q ^ shape .t ⌝ }
     requires room { ⌜ shape .q * shape .t * shape .q ^ shape .t ≤ length (now words) ⌝ }
+    ensures { λ r. ⌜ ((e : ℕ) → e < 16 → getD r e 0 ≡ F·Field .arith .code (lacks (F·Field .arith) (shape .q) (shape .t) (among (outages (now (out .entry)))) (symbols (F·Field .arith) (shape .q ^ shape .t) (now (words .entry))) place e)) ⌝ }
 {
     let mut sides = [0u16; 16];
     for e in 0..16 {
@@ -47,6 +50,8 @@ pub(crate) fn plane_solution<F: Field>(
 ) -> [u16; 16]
     requires place { ⌜ place < shape .q ^ shape .t ⌝ }
     requires room { ⌜ shape .q * shape .t * shape .q ^ shape .t ≤ length (now words) ⌝ }
+    requires count { ⌜ now out .count ≡ shape .q * shape .t ⌝ }
+    ensures { λ r. ⌜ Holds-solution (F·Field .arith) (shape .q) (shape .t) (among (outages (now (out .entry)))) (symbols (F·Field .arith) (shape .q ^ shape .t) (now (words .entry))) place (outages (now (out .entry))) r (length (outages (now (out .entry)))) ⌝ }
 {
     let mut sides = plane_sides::<F>(shape, out, words, place);
     solve_first::<F>(out, &mut sides, out.len());

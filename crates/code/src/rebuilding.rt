@@ -54,6 +54,7 @@ fn refilled<F: Field>(
     requires node { ⌜ node < shape .q * shape .t ⌝ }
     requires place { ⌜ place < shape .q ^ shape .t ⌝ }
     requires room { ⌜ shape .q * shape .t * shape .q ^ shape .t ≤ length (now words) ⌝ }
+    requires count { ⌜ now column .count ≡ shape .q * shape .t ⌝ }
 {
     match shape.companion(node, place) {
         Ok((c, d)) => {

@@ -7,7 +7,7 @@ use Rattle.code.proofs.rebuilding.refilled.Needs as need
 pub plane-solution-solution-requires : need.plane-solution-solution-requires
 plane-solution-solution-requires g c κs =
     let h = c .in-Ok .ensures tt in
-    record { place = companion-place-within (shaped (c .args .shape)) (c .args .node) (c .args .place) (h .0) (h .1) (c .in-Ok .d) (h .3); room = c .pre .room }
+    record { place = companion-place-within (shaped (c .args .shape)) (c .args .node) (c .args .place) (h .0) (h .1) (c .in-Ok .d) (h .3); room = c .pre .room; count = c .pre .count }
 
 pub offset-solution-row : need.offset-solution-row
 offset-solution-row g c = let s = shaped (c .args .shape) in omega (arith, row-bound (c .args .shape .q) (rows-positive s) (c .in-Ok .c), rows-bound s)

@@ -3,7 +3,7 @@ use mathlib.Core.Path.{_≡_, refl, sym, _∙_}
 use mathlib.Core.Logic.{⊎-elim}
 use mathlib.Core.Bool.{Bool, true, false, cond, _&&_}
 use Prim.Native.Nat.{ℕ, _-_, _*_, _^_, _≤_, _<_}
-use native.Mathlib.Nat.{mul-le-mul, mul-le-mul-left, mul-le-mul-right, pow-le-pow-right}
+use native.Mathlib.Nat.{mul-le-mul, mul-le-mul-left, mul-le-mul-right, pow-le-pow-right, one-le-pow}
 use native.Mathlib.Omega.{arith}
 use lib.Dec.{leb}
 use Rattle.std.proofs.shelf.Tests.{and-from, and-parts, cases-bool, cond-true, leb-true, le-leb}
@@ -35,6 +35,9 @@ module _ {q t : ℕ} (s : Shaped q t) where
 
   pub rows-positive : 0 < q
   rows-positive = omega arith
+
+  pub places-positive : 0 < q ^ t
+  places-positive = one-le-pow t q rows-positive
 
   pub rows-bound : q ≤ 8
   rows-bound = let a = mul-le-mul-left q (s .deep) in omega arith

@@ -1,0 +1,5 @@
+use mathlib.Core.Path.{_≡_}
+use Rattle.code.proofs.listing.span.Given as given
+
+abbrev pub Inv-loop-k : given.InvT-loop-k
+Inv-loop-k l = l .list .count ≡ l .entry .list .count

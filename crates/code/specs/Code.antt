@@ -1,0 +1,72 @@
+-- The coupled-layer code over a field. Assumes nothing.
+use mathlib.Core.Path.{_≡_}
+use mathlib.Core.Bool.{Bool, true, cond}
+use mathlib.Core.List.{List}
+use Prim.Native.Nat.{ℕ, zero, suc, _+_, _-_, _*_, _^_, _<_}
+use lib.Dec.{eqb}
+use lib.ListN.{getD}
+use Rattle.field.specs.Field.{Arith}
+use Rattle.shape.specs.Layout.{row, column, digit, companion-node, companion-place}
+
+-- an array of words: node, place
+abbrev pub Words : Type 0
+Words = ℕ → ℕ → ℕ
+
+-- the words in a list, node by node with places rising
+abbrev pub laid : (places : ℕ) → List ℕ → Words
+laid places ws i p = getD ws (i * places + p) 0
+
+module _ {E : Type 0} (f : Arith E) where
+  -- a - b
+  abbrev pub minus : E → E → E
+  minus a b = f .sum a (f .negative b)
+
+  -- the e-th power; power 0 of any element is one
+  unfoldable pub power : E → ℕ → E
+  power a zero = f .one
+  power a (suc e) = f .product a (power a e)
+
+  -- the sum of g i over the numbers i below n
+  unfoldable pub total : (g : ℕ → E) (n : ℕ) → E
+  total g zero = f .zero
+  total g (suc n) = f .sum (total g n) (g n)
+
+  -- the sum of point i ^ e × x i over the numbers i below n
+  unfoldable pub moment : (point x : ℕ → E) (n e : ℕ) → E
+  moment point x n e = total (λ i. f .product (power (point i) e) (x i)) n
+
+  -- the uncoupled symbol of node i at place p: a symbol whose row is its plane's digit stands alone, any other goes with its companion
+  unfoldable pub uncoupled : (q : ℕ) (A : ℕ → ℕ → E) (i p : ℕ) → E
+  uncoupled q A i p =
+      cond (eqb (row q i) (digit q p (column q i))) (A i p)
+      (f .sum (A i p) (f .product (f .coupling) (A (companion-node q i p) (companion-place q i p))))
+
+  -- check e of plane p: the sum of point i ^ e × the uncoupled symbol of node i, over all nodes
+  abbrev pub check : (q t : ℕ) (A : ℕ → ℕ → E) (p e : ℕ) → E
+  check q t A p e = moment (f .point) (λ i. uncoupled q A i p) (q * t) e
+
+  -- the first m checks of every plane are zero
+  abbrev pub Checks : (q t m : ℕ) (A : ℕ → ℕ → E) → Type 0
+  Checks q t m A = (p e : ℕ) → p < q ^ t → e < m → check q t A p e ≡ f .zero
+
+  -- the elements of words
+  abbrev pub elements : Words → ℕ → ℕ → E
+  elements w i p = f .of (w i p)
+
+module _ {E : Type 0} (f : Arith E) (q t : ℕ) where
+  -- all words are codes, and every check of every plane is zero
+  pub record Codeword (w : Words) : Type 0 where
+    pub codes : (i p : ℕ) → i < q * t → p < q ^ t → w i p < f .size
+    pub checks : Checks f q t q (elements f w)
+
+  -- the same words at every place of every node
+  abbrev pub Same : Words → Words → Type 0
+  Same w v = (i p : ℕ) → i < q * t → p < q ^ t → w i p ≡ v i p
+
+  -- the same words at the nodes that pass the test
+  abbrev pub SameAt : (ℕ → Bool) → Words → Words → Type 0
+  SameAt test w v = (i p : ℕ) → i < q * t → p < q ^ t → test i ≡ true → w i p ≡ v i p
+
+  -- the message stands in the data nodes, node by node with places rising
+  abbrev pub Carries : Words → List ℕ → Type 0
+  Carries w message = (i p : ℕ) → i < q * (t - 1) → p < q ^ t → w i p ≡ laid (q ^ t) message i p

@@ -1,0 +1,101 @@
+// Rebuilds one node from the planes that help it.
+ghost use mathlib.Core.Path.{_≡_};
+ghost use Prim.Native.Nat.{_*_, _^_, _<_, _≤_};
+ghost use lib.ListN.{length};
+use crate::arithmetic::difference;
+use crate::arithmetic::element;
+use crate::listing::span;
+use crate::planes::plane_solution;
+use crate::symbols::spot;
+use crate::symbols::symbol;
+use crate::symbols::write_symbol;
+use field::Field;
+use refusal::Refusal;
+use shape::OutageList;
+use shape::Shape;
+
+// Whether the words of a helper are codes in the planes that help a node.
+fn helper_codes<F: Field>(shape: Shape, words: &[u16], node: usize, helper: usize) -> bool
+    requires helper { ⌜ helper < shape .q * shape .t ⌝ }
+    requires room { ⌜ shape .q * shape .t * shape .q ^ shape .t ≤ length (now words) ⌝ }
+{
+    let size = F::codes();
+    for place in 0..shape.places() {
+        let at = spot(shape, helper, place);
+        if shape.digit(place, shape.column(node)) == shape.row(node)
+            && u32::from(words[at]) >= size
+        {
+            return false;
+        }
+    }
+    true
+}
+
+// Whether every helper word of a node is a code.
+fn help_codes<F: Field>(shape: Shape, words: &[u16], node: usize) -> bool
+    requires { ⌜ shape .q * shape .t * shape .q ^ shape .t ≤ length (now words) ⌝ }
+{
+    for helper in 0..shape.nodes() {
+        if helper != node && !helper_codes::<F>(shape, words, node, helper) {
+            return false;
+        }
+    }
+    true
+}
+
+// The symbol of a node at a place, from the plane that helps it there; the list has the nodes of its column.
+fn refilled<F: Field>(
+    shape: Shape,
+    column: &OutageList,
+    words: &[u16],
+    node: usize,
+    place: usize,
+) -> F::Element
+    requires node { ⌜ node < shape .q * shape .t ⌝ }
+    requires place { ⌜ place < shape .q ^ shape .t ⌝ }
+    requires room { ⌜ shape .q * shape .t * shape .q ^ shape .t ≤ length (now words) ⌝ }
+    requires count { ⌜ now column .count ≡ shape .q * shape .t ⌝ }
+{
+    match shape.companion(node, place) {
+        Ok((c, d)) => {
+            let solution = plane_solution::<F>(shape, column, words, d);
+            let b = element::<F>(solution[shape.row(c)]);
+            if c == node {
+                b
+            } else {
+                F::product(
+                    F::inverse(F::coupling_element()),
+                    difference::<F>(b, symbol::<F>(shape, words, c, d)),
+                )
+            }
+        }
+        Err(_) => F::zero(),
+    }
+}
+
+// Fills the words of a node.
+fn refill<F: Field>(shape: Shape, words: &mut [u16], node: usize)
+    requires node { ⌜ node < shape .q * shape .t ⌝ }
+    requires room { ⌜ shape .q * shape .t * shape .q ^ shape .t ≤ length (now words) ⌝ }
+{
+    let column = span(shape, shape.column(node) * shape.rows());
+    for place in 0..shape.places() {
+        let a = refilled::<F>(shape, &column, words, node, place);
+        write_symbol::<F>(shape, words, node, place, a);
+    }
+}
+
+// Makes the words of a node the only codes with which the checks of the planes that help it hold.
+pub fn rebuild<F: Field>(shape: Shape, node: usize, words: &mut [u16]) -> Result<(), Refusal> {
+    if words.len() < shape.words() {
+        return Err(Refusal::WorkSpace);
+    }
+    if node >= shape.nodes() {
+        return Err(Refusal::NoSuchPlace);
+    }
+    if !help_codes::<F>(shape, words, node) {
+        return Err(Refusal::BadWord);
+    }
+    refill::<F>(shape, words, node);
+    Ok(())
+}

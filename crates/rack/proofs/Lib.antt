@@ -1,2 +1,5 @@
 pub mod Models
 pub mod Tables
+pub mod ImageCounts
+pub mod Images
+pub mod ImageCalls

@@ -1,9 +1,12 @@
 // Racks of nodes behind one trait.
+pub mod image;
 pub mod node;
 pub mod table;
 pub mod table_error;
 pub mod the_rack;
 
+pub use image::ImageRack;
+pub use image::ImageRackRack;
 pub use node::Node;
 pub use table::TableRack;
 pub use table::calls::TableRackRack;

@@ -2,10 +2,10 @@
 use mathlib.Core.Path.{_≡_, refl, sym, ap, _∙_}
 use mathlib.Core.List.{List}
 use Prim.Native.Nat.{ℕ, zero, suc, _+_, _-_, _*_, _/_, _%_, _<_, _≤_, min}
-use native.Mathlib.Nat.{mul-le-mul-right, add-mul, one-mul, div-eq-of-lt}
+use native.Mathlib.Nat.{add-zero, mul-le-mul-right, add-mul, one-mul, div-eq-of-lt}
 use native.Mathlib.Omega.{arith}
 use lib.ListN.{length}
-use Rattle.std.proofs.shelf.Bits.{div-add-mod'}
+use Rattle.std.proofs.shelf.Bits.{div-add-mod', div-mul-add}
 use Rattle.rack.specs.Image.{record-length, record-count}
 
 -- bytes shorter than a record hold none
@@ -24,3 +24,9 @@ count-within places bytes =
     let le : record-count places bytes ≤ length bytes / record-length places = omega arith in
     let a = mul-le-mul-right (record-length places) le in
     omega (arith, a, div-add-mod' (length bytes) (record-length places))
+
+-- bytes of just so many records
+pub count-is : (n places : ℕ) (bytes : List ℕ) → n ≤ 16 → length bytes ≡ n * record-length places → record-count places bytes ≡ n
+count-is n places bytes few long =
+    let e : length bytes / record-length places ≡ n = ap (λ l. l / record-length places) (long ∙ sym (add-zero (n * record-length places))) ∙ div-mul-add n (record-length places) 0 (omega arith) in
+    omega arith

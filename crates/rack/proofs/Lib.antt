@@ -3,3 +3,4 @@ pub mod Tables
 pub mod ImageCounts
 pub mod Images
 pub mod ImageCalls
+pub mod Encoding

@@ -4,12 +4,16 @@ use mathlib.Core.Bool.{Bool, true, false, cond, _&&_}
 use mathlib.Core.List.{List, [], _∷_, _++_}
 use Prim.Native.Nat.{ℕ, zero, suc, _+_, _*_, _/_, _%_, _^_, _<_, min}
 use denote.Ref.{now}
-use lib.Dec.{eqb, ltb}
+use mathlib.Core.Logic.{_⊎_}
+use lib.Dec.{eqb, leb, ltb}
 use lib.ListN.{length, getD, replicate}
 use Rattle.refusal.specs.Numbers.{cause-number}
+use Rattle.refusal.specs.declared.reason.Cause.{Cause}
 use Rattle.refusal.specs.declared.reason.Fault.{Fault}
 use Rattle.refusal.specs.declared.reason.Refusal.{Refusal}
 use Rattle.refusal.specs.declared.reason.Refusal.the-variants as reason
+use Rattle.std.specs.declared.option.Option.{Option}
+use Rattle.std.specs.declared.option.Option.the-variants.{Some, None}
 use Rattle.rack.specs.Model.{Model, fitting}
 use Rattle.rack.specs.declared.image.ImageRack.{ImageRack}
 
@@ -46,7 +50,12 @@ wrong number offset byte =
     (cond (eqb offset 2) (cond (eqb byte number) 0 3)
     (cond (eqb offset 3) (cond (ltb byte 2) 0 4) 0)))
 
--- the same at byte b of an image
+-- the number of the cause that was found, or 0
+abbrev pub found-cause : Option Cause → ℕ
+found-cause None = 0
+found-cause (Some c) = cause-number c
+
+-- the number of the cause for which byte b of an image is wrong, or 0
 abbrev pub wrong-at : ℕ → List ℕ → ℕ → ℕ
 wrong-at places bytes b = wrong (b / record-length places) (b % record-length places) (getD bytes b 0)
 
@@ -69,11 +78,28 @@ Malformed nodes places bytes fault =
     (FirstWrong places bytes (fault .byte) × (fault .record ≡ fault .byte / record-length places) × (cause-number (fault .cause) ≡ wrong-at places bytes (fault .byte)))
     ((fault .record ≡ 0) × (fault .byte ≡ 0) × (cause-number (fault .cause) ≡ 1))
 
--- why the image of a room is refused: the counts are looked at before the bytes
-abbrev pub ImageRefused : ℕ → ℕ → List ℕ → ℕ → Refusal → Type 0
-ImageRefused nodes places bytes room e =
+-- why the image of one room is refused: the counts are looked at before the bytes
+abbrev pub ImageRefused : ℕ → ℕ → List ℕ → Refusal → Type 0
+ImageRefused nodes places bytes e =
     cond (fitting nodes places)
-    ((fault : Fault) × (e ≡ reason.Image fault) × (fault .room ≡ room) × Malformed nodes places bytes fault)
+    ((fault : Fault) × (e ≡ reason.Image fault) × (fault .room ≡ 0) × Malformed nodes places bytes fault)
+    (e ≡ reason.Size)
+
+-- the counts that two rooms of a pair may have
+abbrev pub rooms-fit : ℕ → ℕ → ℕ → Bool
+rooms-fit n m places = (fitting n places && fitting m places) && leb (n + m) 16
+
+-- the fault is in the first room, or the first room's image is formed and the fault is in the second
+abbrev pub InRooms : ℕ → ℕ → ℕ → List ℕ → List ℕ → Fault → Type 0
+InRooms n m places first second fault =
+    ((fault .room ≡ 0) × Malformed n places first fault)
+    ⊎ ((fault .room ≡ 1) × Formed n places first × Malformed m places second fault)
+
+-- why the images of two rooms are refused
+abbrev pub ImagesRefused : ℕ → ℕ → ℕ → List ℕ → List ℕ → Refusal → Type 0
+ImagesRefused n m places first second e =
+    cond (rooms-fit n m places)
+    ((fault : Fault) × (e ≡ reason.Image fault) × InRooms n m places first second fault)
     (e ≡ reason.Size)
 
 -- the rack that the first n records of some bytes stand for, with these meters
@@ -98,13 +124,13 @@ image-model s = decoded (record-count (s .places) (now (s .bytes))) (s .places) 
 abbrev pub opened : ℕ → List ℕ → Model
 opened places bytes = decoded (record-count places bytes) places bytes (replicate 16 0)
 
--- each word is one of 16 bits
-abbrev pub Words16 : Model → Type 0
-Words16 m = (i p : ℕ) → i < m .nodes → p < m .places → m .words i p < 2 ^ 16
-
 -- two racks of the same counts with the same flags and words at every node and place
 pub record SameHeld (a b : Model) : Type 0 where
   pub nodes : b .nodes ≡ a .nodes
   pub places : b .places ≡ a .places
   pub flags : (i : ℕ) → i < a .nodes → b .flags i ≡ a .flags i
   pub words : (i p : ℕ) → i < a .nodes → p < a .places → b .words i p ≡ a .words i p
+
+-- each word is one of 16 bits
+abbrev pub Words16 : Model → Type 0
+Words16 m = (i p : ℕ) → i < m .nodes → p < m .places → m .words i p < 2 ^ 16

@@ -1,12 +1,11 @@
 // A rack over lent bytes: a record for each node, in order.
 ghost use mathlib.Core.Path.{_≡_, refl, ap, _∙_};
-ghost use mathlib.Core.Bool.{true};
 ghost use Prim.Native.Nat.{ℕ, _+_, _*_, _/_, _<_, _≤_, min};
 ghost use denote.Ref.{name, now};
 ghost use lib.ListN.{length};
 ghost use Rattle.std.specs.Options.{Cases as BySome};
-ghost use Rattle.rack.specs.Model.{Model, fitting};
-ghost use Rattle.rack.specs.Image.{image, image-model, opened, record-count, record-length, Formed, SameHeld, Words16};
+ghost use Rattle.rack.specs.Model.{Model};
+ghost use Rattle.rack.specs.Image.{image, image-model, opened, record-count, record-length, Formed, SameHeld};
 use crate::the_rack::Rack;
 use refusal::Refusal;
 
@@ -23,12 +22,22 @@ impl<'a> ImageRack<'a> {
         ensures named { λ r. ⌜ name (r .bytes) ≡ name (bytes .entry) ⌝ }
         ensures bytes { λ r. ⌜ now (r .bytes) ≡ now (bytes .entry) ⌝ }
         ensures model { λ r. ⌜ image-model r ≡ opened places (now (bytes .entry)) ⌝ }
+        ensures encodes { λ r. ⌜ ((n : ℕ) → n ≤ 16 → Formed n places (now (bytes .entry)) → now (bytes .entry) ≡ image (image-model r)) ⌝ }
+        ensures decodes { λ r. ⌜ ((m : Model) → m .nodes ≤ 16 → m .places ≡ places → now (bytes .entry) ≡ image m → SameHeld m (image-model r)) ⌝ }
     {
         ImageRack {
             bytes,
             places,
             meters: [0; 16],
         }
+    }
+
+    // The bytes as they are now. If they are an image, they are that of the rack's flags and words.
+    pub fn as_bytes(&self) -> &[u8]
+        ensures value { λ r. ⌜ now r ≡ now (now (self .entry) .bytes) ⌝ }
+        ensures encodes { λ r. ⌜ ((n : ℕ) → n ≤ 16 → Formed n (now (self .entry) .places) (now (now (self .entry) .bytes)) → now r ≡ image (image-model (now (self .entry)))) ⌝ }
+    {
+        self.bytes
     }
 
     // The byte at which a node's record starts, if there is such a node.

@@ -1,10 +1,14 @@
 // Racks of nodes behind one trait.
+pub mod checks;
+mod counts;
 pub mod image;
 pub mod node;
 pub mod table;
 pub mod table_error;
 pub mod the_rack;
 
+pub use checks::check_image;
+pub use checks::check_images;
 pub use image::ImageRack;
 pub use image::ImageRackRack;
 pub use node::Node;

@@ -1,0 +1,24 @@
+-- Two racks as one: the first room's nodes come first. Assumes nothing.
+use mathlib.Core.Bool.{Bool, cond, _&&_}
+use mathlib.Core.Path.{_≡_}
+use Prim.Native.Nat.{ℕ, _+_, _-_, min}
+use lib.Dec.{ltb, leb, eqb}
+use Rattle.rack.specs.Model.{Model}
+
+-- f below n, and g, counted from n, above
+abbrev pub followed : {X : Type 0} → ℕ → (ℕ → X) → (ℕ → X) → ℕ → X
+followed n f g k = cond (ltb k n) (f k) (g (k - n))
+
+-- no more than 16 nodes, and the places that both rooms have
+abbrev pub paired : Model → Model → Model
+paired a b = record {
+  nodes = min 16 (a .nodes + b .nodes);
+  places = min (a .places) (b .places);
+  flags = followed (a .nodes) (a .flags) (b .flags);
+  words = followed (a .nodes) (a .words) (b .words);
+  meters = followed (a .nodes) (a .meters) (b .meters);
+}
+
+-- the two rooms have equally many places, and at most 16 nodes in all
+abbrev pub matching : Model → Model → Bool
+matching a b = eqb (a .places) (b .places) && leb (a .nodes + b .nodes) 16

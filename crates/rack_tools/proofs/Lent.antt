@@ -20,7 +20,7 @@ use Rattle.rack.specs.Image.{image, image-model, opened, Formed, rooms-fit}
 use Rattle.rack.proofs.Models.{done-was-ok, done-was-err, fitting-parts}
 use Rattle.rack.proofs.Encoding.{formed-image}
 use Rattle.rack_tools.specs.Filled.{sized, listed, filled, drawn, movable, moved-from, after-fill, after-move-from, after-move-to}
-use Rattle.rack_tools.specs.Lent.{FillRefused, MoveRefused}
+use Rattle.rack_tools.specs.Lent.{NodeFilled, FillRefused, NodeMoved, MoveRefused}
 
 -- an image that stays one is the encoding of its rack: s is the rack on the bytes as they were lent, t the same rack later
 module _ (s t : ImageRack) (n w : ℕ) (bs : List ℕ) (few : n ≤ 16) (formed : Formed n w bs) (lent : now (s .bytes) ≡ bs) (held : image-model s ≡ opened w bs) where
@@ -35,14 +35,15 @@ module _ (s t : ImageRack) (n w : ℕ) (bs : List ℕ) (few : n ≤ 16) (formed 
 
 -- a node of lent bytes was filled, or not
 pub fill-cases : (m m′ : Model) (bs bs′ ws : List ℕ) (n w i : ℕ) (r : Result (Unit {0}) Refusal) → fitting n w ≡ true → Formed n w bs → m ≡ opened w bs → bs ≡ image m → bs′ ≡ image m′ → r ≡ done (sized m i (length ws)) → m′ ≡ after-fill m i ws
-    → Cases r (λ _. (fitting n w ≡ true) × Formed n w bs × (sized (opened w bs) i (length ws) ≡ true) × (bs′ ≡ image (filled (opened w bs) i (listed ws)))) (λ e. (bs′ ≡ bs) × FillRefused n w bs i (length ws) e)
+    → Cases r (λ _. NodeFilled n w bs i ws bs′) (λ e. (bs′ ≡ bs) × FillRefused n w bs i (length ws) e)
 fill-cases m m′ bs bs′ ws n w i (Ok u) fit formed held b b′ was left =
-    let yes′ = done-was-ok (sized m i (length ws)) was in (
-      fit,
-      formed,
-      ap (λ z. sized z i (length ws)) (sym held) ∙ yes′,
-      b′ ∙ ap image (left ∙ ap (λ t. cond t (filled m i (listed ws)) m) yes′ ∙ ap (λ z. filled z i (listed ws)) held),
-    )
+    let yes′ = done-was-ok (sized m i (length ws)) was in
+    record {
+      counts = fit;
+      formed = formed;
+      fits = ap (λ z. sized z i (length ws)) (sym held) ∙ yes′;
+      left = b′ ∙ ap image (left ∙ ap (λ t. cond t (filled m i (listed ws)) m) yes′ ∙ ap (λ z. filled z i (listed ws)) held);
+    }
 fill-cases m m′ bs bs′ ws n w i (Err e) fit formed held b b′ was left =
     let no′ = done-was-err (sized m i (length ws)) e was in (
       b′ ∙ ap image (left ∙ ap (λ t. cond t (filled m i (listed ws)) m) (no′ .0)) ∙ sym b,
@@ -63,19 +64,19 @@ drawn-was-err false stands e was = refl
 -- a node of one room was moved to the other, or not
 module _ (a a′ b b′ : Model) (xs xs′ ys ys′ : List ℕ) (n m w i j : ℕ) (fit : rooms-fit n m w ≡ true) (first : Formed n w xs) (second : Formed m w ys) (was-a : a ≡ opened w xs) (was-b : b ≡ opened w ys) (x : xs ≡ image a) (x′ : xs′ ≡ image a′) (y : ys ≡ image b) (y′ : ys′ ≡ image b′) (source : a′ ≡ after-move-from a i b j) (sink : b′ ≡ after-move-to a i b j) where
   pub move-cases : (r : Result (Unit {0}) Refusal) → r ≡ drawn (movable a i b j) (a .flags i)
-      → Cases r (λ _. (rooms-fit n m w ≡ true) × Formed n w xs × Formed m w ys × (movable (opened w xs) i (opened w ys) j ≡ true) × (opened w xs .flags i ≡ true) × (xs′ ≡ image (moved-from (opened w xs) i)) × (ys′ ≡ image (filled (opened w ys) j (opened w xs .words i))))
+      → Cases r (λ _. NodeMoved n m w xs ys i j xs′ ys′)
       (λ e. (xs′ ≡ xs) × (ys′ ≡ ys) × MoveRefused n m w xs ys i j e)
   move-cases (Ok u) was =
       let both = drawn-was-ok (movable a i b j) (a .flags i) was in
-      let go = and-from (movable a i b j) (a .flags i) (both .0) (both .1) in (
-        fit,
-        first,
-        second,
-        ap₂ (λ u v. movable u i v j) (sym was-a) (sym was-b) ∙ both .0,
-        ap (λ u. u .flags i) (sym was-a) ∙ both .1,
-        x′ ∙ ap image (source ∙ ap (λ t. cond t (moved-from a i) a) go ∙ ap (λ u. moved-from u i) was-a),
-        y′ ∙ ap image (sink ∙ ap (λ t. cond t (filled b j (a .words i)) b) go ∙ ap₂ (λ u v. filled v j (u .words i)) was-a was-b),
-      )
+      let go = and-from (movable a i b j) (a .flags i) (both .0) (both .1) in
+      record {
+        counts = fit;
+        formed = (first, second);
+        fits = ap₂ (λ u v. movable u i v j) (sym was-a) (sym was-b) ∙ both .0;
+        stood = ap (λ u. u .flags i) (sym was-a) ∙ both .1;
+        source = x′ ∙ ap image (source ∙ ap (λ t. cond t (moved-from a i) a) go ∙ ap (λ u. moved-from u i) was-a);
+        sink = y′ ∙ ap image (sink ∙ ap (λ t. cond t (filled b j (a .words i)) b) go ∙ ap₂ (λ u v. filled v j (u .words i)) was-a was-b);
+      }
   move-cases (Err e) was =
       let stop = drawn-was-err (movable a i b j) (a .flags i) e was in (
         x′ ∙ ap image (source ∙ ap (λ t. cond t (moved-from a i) a) stop) ∙ sym x,
@@ -85,7 +86,7 @@ module _ (a a′ b b′ : Model) (xs xs′ ys ys′ : List ℕ) (n m w i j : ℕ
 
 -- the same of racks over the bytes: s was opened on bs and is t later, u was opened on ys and is v later
 pub lent-filled : (s t : ImageRack) (n w : ℕ) (bs bs′ ws : List ℕ) (i : ℕ) (r : Result (Unit {0}) Refusal) → (fitting n w ≡ true) × Formed n w bs → now (s .bytes) ≡ bs → image-model s ≡ opened w bs → ((k : ℕ) → Formed k (s .places) (now (s .bytes)) → Formed k (t .places) (now (t .bytes))) → bs′ ≡ now (t .bytes) → r ≡ done (sized (image-model s) i (length ws)) → image-model t ≡ after-fill (image-model s) i ws
-    → Cases r (λ _. (fitting n w ≡ true) × Formed n w bs × (sized (opened w bs) i (length ws) ≡ true) × (bs′ ≡ image (filled (opened w bs) i (listed ws)))) (λ e. (bs′ ≡ bs) × FillRefused n w bs i (length ws) e)
+    → Cases r (λ _. NodeFilled n w bs i ws bs′) (λ e. (bs′ ≡ bs) × FillRefused n w bs i (length ws) e)
 lent-filled s t n w bs bs′ ws i r taken lent held stays ends was left =
     let few = fitting-parts n w (taken .0) .0 in
     fill-cases (image-model s) (image-model t) bs bs′ ws n w i r (taken .0) (taken .1) held (lent-before s t n w bs few (taken .1) lent held) (ends ∙ lent-after s t n w bs few (taken .1) lent held stays) was left
@@ -100,7 +101,7 @@ few-second n m w fit = fitting-parts m w (and-parts (fitting n w) (fitting m w) 
 module _ (s t u v : ImageRack) (n m w : ℕ) (xs xs′ ys ys′ : List ℕ) (i j : ℕ) (taken : (rooms-fit n m w ≡ true) × Formed n w xs × Formed m w ys) (lent-x : now (s .bytes) ≡ xs) (held-x : image-model s ≡ opened w xs) (lent-y : now (u .bytes) ≡ ys) (held-y : image-model u ≡ opened w ys) where
   pub lent-moved : ((k : ℕ) → Formed k (s .places) (now (s .bytes)) → Formed k (t .places) (now (t .bytes))) → ((k : ℕ) → Formed k (u .places) (now (u .bytes)) → Formed k (v .places) (now (v .bytes))) → xs′ ≡ now (t .bytes) → ys′ ≡ now (v .bytes) → image-model t ≡ after-move-from (image-model s) i (image-model u) j → image-model v ≡ after-move-to (image-model s) i (image-model u) j
       → (r : Result (Unit {0}) Refusal) → r ≡ drawn (movable (image-model s) i (image-model u) j) (image-model s .flags i)
-      → Cases r (λ _. (rooms-fit n m w ≡ true) × Formed n w xs × Formed m w ys × (movable (opened w xs) i (opened w ys) j ≡ true) × (opened w xs .flags i ≡ true) × (xs′ ≡ image (moved-from (opened w xs) i)) × (ys′ ≡ image (filled (opened w ys) j (opened w xs .words i))))
+      → Cases r (λ _. NodeMoved n m w xs ys i j xs′ ys′)
       (λ e. (xs′ ≡ xs) × (ys′ ≡ ys) × MoveRefused n m w xs ys i j e)
   lent-moved stays-x stays-y ends-x ends-y source sink r was =
       let few-x = few-first n m w (taken .0) in

@@ -1,12 +1,8 @@
 // The same on lent images: what the bytes hold afterwards is the encoding of the racks.
 ghost use mathlib.Core.Path.{_≡_};
-ghost use mathlib.Core.Bool.{true};
 ghost use lib.ListN.{length};
 ghost use Rattle.std.specs.Results.{Cases};
-ghost use Rattle.rack.specs.Model.{fitting};
-ghost use Rattle.rack.specs.Image.{image, opened, Formed, rooms-fit};
-ghost use Rattle.rack_tools.specs.Filled.{sized, listed, filled, movable, moved-from};
-ghost use Rattle.rack_tools.specs.Lent.{FillRefused, MoveRefused};
+ghost use Rattle.rack_tools.specs.Lent.{NodeFilled, FillRefused, NodeMoved, MoveRefused};
 use crate::whole_nodes::fill_node;
 use crate::whole_nodes::move_node;
 use rack::ImageRack;
@@ -23,7 +19,7 @@ pub fn fill_image(
     node: usize,
     words: &[u16],
 ) -> Result<(), Refusal>
-    ensures { λ r. ⌜ Cases r (λ _. (fitting nodes places ≡ true) × Formed nodes places (now (bytes .entry)) × (sized (opened places (now (bytes .entry))) node (length (now (words .entry))) ≡ true) × (now (bytes .exit) ≡ image (filled (opened places (now (bytes .entry))) node (listed (now (words .entry)))))) (λ e. (now (bytes .exit) ≡ now (bytes .entry)) × FillRefused nodes places (now (bytes .entry)) node (length (now (words .entry))) e) ⌝ }
+    ensures { λ r. ⌜ Cases r (λ _. NodeFilled nodes places (now (bytes .entry)) node (now (words .entry)) (now (bytes .exit))) (λ e. (now (bytes .exit) ≡ now (bytes .entry)) × FillRefused nodes places (now (bytes .entry)) node (length (now (words .entry))) e) ⌝ }
 {
     check_image(bytes, nodes, places)?;
     let mut rack = ImageRack::over(bytes, places);
@@ -40,7 +36,7 @@ pub fn move_between_images(
     node: usize,
     target: usize,
 ) -> Result<(), Refusal>
-    ensures { λ r. ⌜ Cases r (λ _. (rooms-fit «first_nodes» «second_nodes» places ≡ true) × Formed «first_nodes» places (now (first .entry)) × Formed «second_nodes» places (now (second .entry)) × (movable (opened places (now (first .entry))) node (opened places (now (second .entry))) target ≡ true) × (opened places (now (first .entry)) .flags node ≡ true) × (now (first .exit) ≡ image (moved-from (opened places (now (first .entry))) node)) × (now (second .exit) ≡ image (filled (opened places (now (second .entry))) target (opened places (now (first .entry)) .words node)))) (λ e. (now (first .exit) ≡ now (first .entry)) × (now (second .exit) ≡ now (second .entry)) × MoveRefused «first_nodes» «second_nodes» places (now (first .entry)) (now (second .entry)) node target e) ⌝ }
+    ensures { λ r. ⌜ Cases r (λ _. NodeMoved «first_nodes» «second_nodes» places (now (first .entry)) (now (second .entry)) node target (now (first .exit)) (now (second .exit))) (λ e. (now (first .exit) ≡ now (first .entry)) × (now (second .exit) ≡ now (second .entry)) × MoveRefused «first_nodes» «second_nodes» places (now (first .entry)) (now (second .entry)) node target e) ⌝ }
 {
     check_images(first, second, first_nodes, second_nodes, places)?;
     let mut source = ImageRack::over(first, places);

@@ -1,9 +1,11 @@
 -- Two racks as one: the first room's nodes come first. Assumes nothing.
 use mathlib.Core.Bool.{Bool, cond, _&&_}
 use mathlib.Core.Path.{_≡_}
-use Prim.Native.Nat.{ℕ, _+_, _-_, min}
+use Prim.Native.Nat.{ℕ, _+_, _-_, _<_, _≤_, min}
 use lib.Dec.{ltb, leb, eqb}
 use Rattle.rack.specs.Model.{Model}
+use Rattle.rack.specs.declared.seat.Seat.{Seat}
+use Rattle.rack.specs.declared.seat.Seat.the-variants.{First, Second, Nowhere}
 
 -- f below n, and g, counted from n, above
 abbrev pub followed : {X : Type 0} → ℕ → (ℕ → X) → (ℕ → X) → ℕ → X
@@ -22,3 +24,9 @@ paired a b = record {
 -- the two rooms have equally many places, and at most 16 nodes in all
 abbrev pub matching : Model → Model → Bool
 matching a b = eqb (a .places) (b .places) && leb (a .nodes + b .nodes) 16
+
+-- where node i of the two is
+abbrev pub Placed : Model → Model → ℕ → Seat → Type 0
+Placed a b i (First k) = (i < paired a b .nodes) × (i < a .nodes) × (k ≡ i)
+Placed a b i (Second k) = (i < paired a b .nodes) × (a .nodes ≤ i) × (k ≡ i - a .nodes)
+Placed a b i Nowhere = paired a b .nodes ≤ i

@@ -6,6 +6,7 @@ pub mod lent_pair;
 pub mod node;
 pub mod pair;
 mod rooms;
+mod seat;
 pub mod table;
 pub mod table_error;
 pub mod the_rack;

@@ -1,9 +1,9 @@
-// Two lent racks called as one: a node below the first's count is in the first room, and the others are in the second.
+// Two racks called as one: the first room's nodes come first, and there are no more than 16 in all.
 ghost use mathlib.Core.Path.{_≡_};
 ghost use mathlib.Core.Bool.{true, false};
-ghost use Prim.Native.Nat.{_+_, _<_, _≤_, min};
 ghost use Rattle.rack.specs.Model.{standing, metered, got, after-get, done, within, node-within, after-put, after-flag};
-ghost use Rattle.rack.specs.Pair.{paired};
+ghost use Rattle.rack.specs.Pair.{paired, Placed};
+use crate::seat::Seat;
 use crate::the_rack::Rack;
 use refusal::Refusal;
 
@@ -21,29 +21,37 @@ pub fn places<A: Rack, B: Rack>(first: &A, second: &B) -> usize
     first.places().min(second.places())
 }
 
-pub fn stands<A: Rack, B: Rack>(first: &A, second: &B, node: usize) -> bool
-    ensures { λ r. ⌜ r ≡ standing (paired (A·Rack .model (now (first .entry))) (B·Rack .model (now (second .entry)))) node ⌝ }
+// The room that a node is in, and its number there.
+fn seat_of<A: Rack, B: Rack>(first: &A, second: &B, node: usize) -> Seat
+    ensures { λ r. ⌜ Placed (A·Rack .model (now (first .entry))) (B·Rack .model (now (second .entry))) node r ⌝ }
 {
     let n = first.nodes();
     if node >= nodes(first, second) {
-        false
+        Seat::Nowhere
     } else if node < n {
-        first.stands(node)
+        Seat::First(node)
     } else {
-        second.stands(node - n)
+        Seat::Second(node - n)
+    }
+}
+
+pub fn stands<A: Rack, B: Rack>(first: &A, second: &B, node: usize) -> bool
+    ensures { λ r. ⌜ r ≡ standing (paired (A·Rack .model (now (first .entry))) (B·Rack .model (now (second .entry)))) node ⌝ }
+{
+    match seat_of(first, second, node) {
+        Seat::First(i) => first.stands(i),
+        Seat::Second(i) => second.stands(i),
+        Seat::Nowhere => false,
     }
 }
 
 pub fn meter<A: Rack, B: Rack>(first: &A, second: &B, node: usize) -> u64
     ensures { λ r. ⌜ r ≡ metered (paired (A·Rack .model (now (first .entry))) (B·Rack .model (now (second .entry)))) node ⌝ }
 {
-    let n = first.nodes();
-    if node >= nodes(first, second) {
-        0
-    } else if node < n {
-        first.meter(node)
-    } else {
-        second.meter(node - n)
+    match seat_of(first, second, node) {
+        Seat::First(i) => first.meter(i),
+        Seat::Second(i) => second.meter(i),
+        Seat::Nowhere => 0,
     }
 }
 
@@ -57,13 +65,13 @@ pub fn get<A: Rack, B: Rack>(
     ensures after { λ r. ⌜ paired (A·Rack .model (now (first .exit))) (B·Rack .model (now (second .exit))) ≡ after-get (paired (A·Rack .model (now (first .entry))) (B·Rack .model (now (second .entry)))) node place ⌝ }
     ensures stays { λ r. ⌜ A·Rack .kept (now (first .entry)) (now (first .exit)) × B·Rack .kept (now (second .entry)) (now (second .exit)) ⌝ }
 {
-    let n = first.nodes();
-    if node >= nodes(first, second) || place >= places(first, second) {
-        Err(Refusal::NoSuchPlace)
-    } else if node < n {
-        first.get(node, place)
-    } else {
-        second.get(node - n, place)
+    if place >= places(first, second) {
+        return Err(Refusal::NoSuchPlace);
+    }
+    match seat_of(first, second, node) {
+        Seat::First(i) => first.get(i, place),
+        Seat::Second(i) => second.get(i, place),
+        Seat::Nowhere => Err(Refusal::NoSuchPlace),
     }
 }
 
@@ -78,13 +86,13 @@ pub fn put<A: Rack, B: Rack>(
     ensures after { λ r. ⌜ paired (A·Rack .model (now (first .exit))) (B·Rack .model (now (second .exit))) ≡ after-put (paired (A·Rack .model (now (first .entry))) (B·Rack .model (now (second .entry)))) node place word ⌝ }
     ensures stays { λ r. ⌜ A·Rack .kept (now (first .entry)) (now (first .exit)) × B·Rack .kept (now (second .entry)) (now (second .exit)) ⌝ }
 {
-    let n = first.nodes();
-    if node >= nodes(first, second) || place >= places(first, second) {
-        Err(Refusal::NoSuchPlace)
-    } else if node < n {
-        first.put(node, place, word)
-    } else {
-        second.put(node - n, place, word)
+    if place >= places(first, second) {
+        return Err(Refusal::NoSuchPlace);
+    }
+    match seat_of(first, second, node) {
+        Seat::First(i) => first.put(i, place, word),
+        Seat::Second(i) => second.put(i, place, word),
+        Seat::Nowhere => Err(Refusal::NoSuchPlace),
     }
 }
 
@@ -93,13 +101,10 @@ pub fn take_out<A: Rack, B: Rack>(first: &mut A, second: &mut B, node: usize) ->
     ensures after { λ r. ⌜ paired (A·Rack .model (now (first .exit))) (B·Rack .model (now (second .exit))) ≡ after-flag (paired (A·Rack .model (now (first .entry))) (B·Rack .model (now (second .entry)))) node false ⌝ }
     ensures stays { λ r. ⌜ A·Rack .kept (now (first .entry)) (now (first .exit)) × B·Rack .kept (now (second .entry)) (now (second .exit)) ⌝ }
 {
-    let n = first.nodes();
-    if node >= nodes(first, second) {
-        Err(Refusal::NoSuchPlace)
-    } else if node < n {
-        first.take_out(node)
-    } else {
-        second.take_out(node - n)
+    match seat_of(first, second, node) {
+        Seat::First(i) => first.take_out(i),
+        Seat::Second(i) => second.take_out(i),
+        Seat::Nowhere => Err(Refusal::NoSuchPlace),
     }
 }
 
@@ -108,12 +113,9 @@ pub fn raise<A: Rack, B: Rack>(first: &mut A, second: &mut B, node: usize) -> Re
     ensures after { λ r. ⌜ paired (A·Rack .model (now (first .exit))) (B·Rack .model (now (second .exit))) ≡ after-flag (paired (A·Rack .model (now (first .entry))) (B·Rack .model (now (second .entry)))) node true ⌝ }
     ensures stays { λ r. ⌜ A·Rack .kept (now (first .entry)) (now (first .exit)) × B·Rack .kept (now (second .entry)) (now (second .exit)) ⌝ }
 {
-    let n = first.nodes();
-    if node >= nodes(first, second) {
-        Err(Refusal::NoSuchPlace)
-    } else if node < n {
-        first.raise(node)
-    } else {
-        second.raise(node - n)
+    match seat_of(first, second, node) {
+        Seat::First(i) => first.raise(i),
+        Seat::Second(i) => second.raise(i),
+        Seat::Nowhere => Err(Refusal::NoSuchPlace),
     }
 }

@@ -37,7 +37,7 @@ impl<'a> ImageRack<'a> {
         ensures value { λ r. ⌜ now r ≡ now (now (self .entry) .bytes) ⌝ }
         ensures encodes { λ r. ⌜ ((n : ℕ) → n ≤ 16 → Formed n (now (self .entry) .places) (now (now (self .entry) .bytes)) → now r ≡ image (image-model (now (self .entry)))) ⌝ }
     {
-        self.bytes
+        &*self.bytes
     }
 
     // The byte at which a node's record starts, if there is such a node.

@@ -69,11 +69,10 @@ pub impl Rack for TableRack as TableRackRack {
         if node >= self.nodes.len() || place >= self.places {
             return Err(Refusal::NoSuchPlace);
         }
-        let was = self.nodes[node];
-        if !was.standing {
+        if !self.nodes[node].standing {
             return Err(Refusal::NodeOut);
         }
-        self.nodes[node].meter = was.meter.wrapping_add(1);
+        self.nodes[node].draw();
         Ok(self.words[node * self.places + place])
     }
 

@@ -4,3 +4,4 @@ pub mod ImageCounts
 pub mod Images
 pub mod ImageCalls
 pub mod Encoding
+pub mod PairImages

@@ -30,3 +30,16 @@ abbrev pub Placed : Model → Model → ℕ → Seat → Type 0
 Placed a b i (First k) = (i < paired a b .nodes) × (i < a .nodes) × (k ≡ i)
 Placed a b i (Second k) = (i < paired a b .nodes) × (a .nodes ≤ i) × (k ≡ i - a .nodes)
 Placed a b i Nowhere = paired a b .nodes ≤ i
+
+-- the first n nodes of a rack, and the k nodes after them
+abbrev pub first-room : ℕ → Model → Model
+first-room n m = record { nodes = n; places = m .places; flags = m .flags; words = m .words; meters = m .meters }
+
+abbrev pub second-room : ℕ → ℕ → Model → Model
+second-room n k m = record {
+  nodes = k;
+  places = m .places;
+  flags = λ i. m .flags (n + i);
+  words = λ i. m .words (n + i);
+  meters = λ i. m .meters (n + i);
+}

@@ -2,8 +2,9 @@
 ghost use mathlib.Core.Path.{_≡_};
 ghost use lib.ListN.{length};
 ghost use Rattle.std.specs.Results.{Cases};
-ghost use Rattle.rack_tools.specs.Lent.{NodeFilled, FillRefused, NodeMoved, MoveRefused};
+ghost use Rattle.rack_tools.specs.Lent.{NodeFilled, FillRefused, NodeMoved, MoveRefused, RoomsFilled, RoomsRefused};
 use crate::whole_nodes::fill_node;
+use crate::whole_nodes::fill_pair;
 use crate::whole_nodes::move_node;
 use rack::ImageRack;
 use rack::ImageRackRack;
@@ -42,4 +43,22 @@ pub fn move_between_images(
     let mut source = ImageRack::over(first, places);
     let mut sink = ImageRack::over(second, places);
     move_node(&mut source, node, &mut sink, target)
+}
+
+// Fills a node of two lent rooms as one rack; a refusal leaves the bytes of both as they were.
+pub fn fill_rooms(
+    first: &mut [u8],
+    second: &mut [u8],
+    first_nodes: usize,
+    second_nodes: usize,
+    places: usize,
+    node: usize,
+    words: &[u16],
+) -> Result<(), Refusal>
+    ensures { λ r. ⌜ Cases r (λ _. RoomsFilled «first_nodes» «second_nodes» places (now (first .entry)) (now (second .entry)) node (now (words .entry)) (now (first .exit)) (now (second .exit))) (λ e. (now (first .exit) ≡ now (first .entry)) × (now (second .exit) ≡ now (second .entry)) × RoomsRefused «first_nodes» «second_nodes» places (now (first .entry)) (now (second .entry)) node (length (now (words .entry))) e) ⌝ }
+{
+    check_images(first, second, first_nodes, second_nodes, places)?;
+    let mut front = ImageRack::over(first, places);
+    let mut back = ImageRack::over(second, places);
+    fill_pair(&mut front, &mut back, node, words)
 }

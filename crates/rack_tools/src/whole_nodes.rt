@@ -2,7 +2,10 @@
 ghost use mathlib.Core.Path.{_≡_};
 ghost use lib.ListN.{length};
 ghost use Rattle.rack.specs.Model.{done};
+ghost use Rattle.rack.specs.Pair.{paired};
 ghost use Rattle.rack_tools.specs.Filled.{sized, drawn, movable, copied, after-fill, after-copy, after-move-from, after-move-to};
+use rack::LentPair;
+use rack::LentPairRack;
 use rack::Rack;
 use refusal::Refusal;
 
@@ -67,4 +70,19 @@ pub fn move_node<A: Rack, B: Rack>(
     }
     to.raise(target)?;
     from.take_out(node)
+}
+
+// Fills a node of two lent racks as one.
+pub fn fill_pair<A: Rack, B: Rack>(
+    first: &mut A,
+    second: &mut B,
+    node: usize,
+    words: &[u16],
+) -> Result<(), Refusal>
+    ensures answer { λ r. ⌜ r ≡ done (sized (paired (A·Rack .model (now (first .entry))) (B·Rack .model (now (second .entry)))) node (length (now (words .entry)))) ⌝ }
+    ensures after { λ r. ⌜ paired (A·Rack .model (now (first .exit))) (B·Rack .model (now (second .exit))) ≡ after-fill (paired (A·Rack .model (now (first .entry))) (B·Rack .model (now (second .entry)))) node (now (words .entry)) ⌝ }
+    ensures stays { λ r. ⌜ A·Rack .kept (now (first .entry)) (now (first .exit)) × B·Rack .kept (now (second .entry)) (now (second .exit)) ⌝ }
+{
+    let mut pair = LentPair { first, second };
+    fill_node(&mut pair, node, words)
 }

@@ -7,7 +7,7 @@ use native.Mathlib.Nat.{add-zero, mod-eq-of-lt}
 use native.Mathlib.Omega.{arith}
 use lib.Dec.{leb, ltb, eqb}
 use Rattle.std.proofs.shelf.Bits.{div-mul-add, mod-mul-add, mul-add-lt}
-use Rattle.std.proofs.shelf.Tests.{lt-ltb, eq-eqb, ne-eqb, cases-eq, cases-lt, and-parts, leb-true, le-leb, ltb-true}
+use Rattle.std.proofs.shelf.Tests.{lt-ltb, eq-eqb, ne-eqb, cases-eq, cases-lt, and-parts, leb-true, ltb-true}
 use Rattle.std.specs.declared.result.Result.{Result}
 use Rattle.std.specs.declared.result.Result.the-variants.{Ok, Err}
 use Rattle.refusal.specs.declared.reason.Refusal.{Refusal}
@@ -68,13 +68,7 @@ done-ok b e = sym (ap done e)
 pub changed-to-same : {X : Type 0} (f : ℕ → X) (i : ℕ) (x : X) → f i ≡ x → (k : ℕ) → changed f i x k ≡ f k
 changed-to-same f i x e k = sym (is-changed f f i x e (λ j ne. refl) k)
 
--- counts that fit, from what a test says and back
-pub fits : (n w : ℕ) → 1 ≤ n → n ≤ 16 → 1 ≤ w → w ≤ 256 → fitting n w ≡ true
-fits n w a b d e =
-    both (leb 1 n && leb n 16) (leb 1 w && leb w 256)
-    (both (leb 1 n) (leb n 16) (le-leb 1 n a) (le-leb n 16 b))
-    (both (leb 1 w) (leb w 256) (le-leb 1 w d) (le-leb w 256 e))
-
+-- what counts that fit are below
 pub fitting-parts : (n w : ℕ) → fitting n w ≡ true → (n ≤ 16) × (w ≤ 256)
 fitting-parts n w e =
     let a = and-parts (leb 1 n && leb n 16) (leb 1 w && leb w 256) e in

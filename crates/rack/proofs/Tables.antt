@@ -9,7 +9,7 @@ use lib.Dec.{ltb, eqb}
 use lib.ListN.{length, getD, set, replicate}
 use Rattle.std.proofs.shelf.Lists.{getD-set-same, getD-set-other, getD-read, getD-replicate, getD-past, length-replicate}
 use Rattle.std.proofs.shelf.Tests.{lt-ltb, le-ltb, cases-lt, and-left, and-right}
-use Rattle.rack.specs.Model.{Model, changed, with-flag, with-word, with-draw, after-get, after-put, after-flag, fresh}
+use Rattle.rack.specs.Model.{Model, changed, risen, with-flag, with-word, with-draw, after-get, after-put, after-flag, fresh}
 use Rattle.rack.specs.Table.{table, blank}
 use Rattle.rack.specs.declared.node.Node.{Node}
 use Rattle.rack.proofs.Models.{same-model, is-changed, changed-to-same, after-get-ok, after-put-ok, after-flag-ok, both, place-row, place-column, place-below}
@@ -65,14 +65,15 @@ module _ (n w : ℕ) (ns : List Node) (ws : List ℕ) (i : ℕ) where
     pub stands-as : x .standing ≡ true → table n w ns ws .flags i ≡ true
     stands-as up = ap (λ y. y .standing) (sym is-x) ∙ up
 
-    -- x′ is the node once more
-    pub table-get : (x′ : Node) → x′ ≡ getD ns i x′ → (p : ℕ) → p < w → x .standing ≡ true → table n w (set ns i (record { standing = x′ .standing; meter = (x .meter + 1) % 2 ^ 64 })) ws ≡ after-get (table n w ns ws) i p
-    table-get x′ again p hp up =
-        set-node (record { standing = x′ .standing; meter = (x .meter + 1) % 2 ^ 64 }) (omega arith) (with-draw (table n w ns ws) i) refl refl
-        (changed-to-same (λ j. getD ns j blank .standing) i (x′ .standing) (ap (λ y. y .standing) (sym (getD-read ns i x′ (omega arith) again blank))))
+    -- x′ is the node once more, and y the node after it was drawn
+    pub table-get : (x′ y : Node) → x′ ≡ getD ns i x′ → y .standing ≡ x′ .standing → y .meter ≡ risen (x′ .meter) 1 → (p : ℕ) → p < w → x .standing ≡ true → table n w (set ns i y) ws ≡ after-get (table n w ns ws) i p
+    table-get x′ y again stood rose p hp up =
+        let is-x′ = getD-read ns i x′ (omega arith) again blank in
+        set-node y (omega arith) (with-draw (table n w ns ws) i) refl refl
+        (changed-to-same (λ j. getD ns j blank .standing) i (y .standing) (ap (λ z. z .standing) (sym is-x′) ∙ sym stood))
         (λ k q. refl)
-        (λ k. ap (λ y. changed (λ j. getD ns j blank .meter) i ((y .meter + 1) % 2 ^ 64) k) is-x)
-        ∙ sym (after-get-ok (table n w ns ws) i p hi hp (ap (λ y. y .standing) (sym is-x) ∙ up))
+        (λ k. ap (λ z. changed (λ j. getD ns j blank .meter) i z k) (rose ∙ ap (λ z. risen (z .meter) 1) is-x′))
+        ∙ sym (after-get-ok (table n w ns ws) i p hi hp (ap (λ z. z .standing) (sym is-x) ∙ up))
 
     pub table-flag : (b : Bool) → table n w (set ns i (record { standing = b; meter = x .meter })) ws ≡ after-flag (table n w ns ws) i b
     table-flag b =

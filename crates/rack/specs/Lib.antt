@@ -1,2 +1,4 @@
 pub mod Model
 pub mod Table
+pub mod Image
+pub mod Pair

@@ -4,6 +4,7 @@ ghost use mathlib.Core.Bool.{true};
 ghost use Rattle.std.specs.Results.{Cases};
 ghost use Rattle.rack.specs.Model.{fitting, fresh};
 ghost use Rattle.rack.specs.Table.{table-model, not-made};
+use crate::counts::fit;
 use crate::node::Node;
 use crate::table::TableRack;
 use crate::table_error::TableError;
@@ -16,7 +17,7 @@ impl TableRack {
     pub fn new(heap: Global, nodes: usize, places: usize) -> Result<TableRack, TableError>
         ensures { λ r. ⌜ Cases r (λ t. (fitting nodes places ≡ true) × (table-model t ≡ fresh nodes places)) (λ e. e ≡ not-made nodes places) ⌝ }
     {
-        if nodes < 1 || nodes > 16 || places < 1 || places > 256 {
+        if !fit(nodes, places) {
             return Err(TableError::Refused(Refusal::Size));
         }
         let blank = Node {
@@ -68,11 +69,10 @@ pub impl Rack for TableRack as TableRackRack {
         if node >= self.nodes.len() || place >= self.places {
             return Err(Refusal::NoSuchPlace);
         }
-        let was = self.nodes[node];
-        if !was.standing {
+        if !self.nodes[node].standing {
             return Err(Refusal::NodeOut);
         }
-        self.nodes[node].meter = was.meter.wrapping_add(1);
+        self.nodes[node].draw();
         Ok(self.words[node * self.places + place])
     }
 

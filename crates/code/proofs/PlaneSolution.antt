@@ -1,23 +1,24 @@
 -- The solution of one plane, on the list of its erased nodes. Assumes nothing.
-use mathlib.Core.Path.{_≡_, refl, sym, ap, _∙_}
-use mathlib.Core.Logic.{_⊎_, inl, inr}
+use mathlib.Core.Path.{_≡_, refl, sym, ap, subst, _∙_}
+use mathlib.Core.Logic.{_≢_, _⊎_, inl, inr}
 use mathlib.Core.Bool.{Bool, true, false, cond}
 use mathlib.Core.List.{List}
-use Prim.Native.Nat.{ℕ, _*_, _^_, _<_, _≤_}
+use Prim.Native.Nat.{ℕ, _+_, _*_, _^_, _<_, _≤_}
 use native.Mathlib.Omega.{arith}
 use lib.ListN.{length, getD}
-use Rattle.std.proofs.shelf.Tests.{cases-bool, cond-true, cond-false}
+use Rattle.std.proofs.shelf.Tests.{both-ways, cases-bool, cond-true, cond-false}
 use Rattle.field.specs.Field.{Arith, Laws}
 use Rattle.shape.specs.Outages.{among, rising}
 use Rattle.shape.proofs.Bounds.{Shaped, rows-positive}
-use Rattle.shape.proofs.Rising.{rising-distinct, rising-count}
+use Rattle.shape.proofs.Rising.{rising-distinct, rising-count, rising-order}
+use Rattle.shape.proofs.Among.{among-at, among-found}
 use Rattle.code.specs.Code.{moment}
 use Rattle.code.specs.Filling.{solution, solved-by}
 use Rattle.code.specs.Solving.{points, reads}
-use Rattle.code.specs.Steps.{lacks, Holds-solution}
+use Rattle.code.specs.Steps.{lacks, Holds-solution, PlaneSolved, Wrote}
 use Rattle.code.specs.Theorems.{Solves}
 use Rattle.code.proofs.Gather.{moment-parts}
-use Rattle.code.proofs.InPlace.{listed-apart}
+use Rattle.code.proofs.InPlace.{below-next, listed-apart}
 use Rattle.code.proofs.Main.{vandermonde-one}
 use Rattle.code.proofs.OnlyOne.{nodes-apart}
 use Rattle.code.proofs.Sums.{moment-same, moment-zero}
@@ -62,3 +63,41 @@ module _ {E : Type 0} (f : Arith E) (laws : Laws f) {q t : ℕ} (s : Shaped q t)
   plane-solved before after sides solves k l =
       vandermonde-one f laws (length nodes) (points f nodes) (lacks f q t (among nodes) A p) (reads f after) (λ j. b (getD nodes j 0))
       (listed-apart f laws (q * t) nodes (s .few) rises) (λ e le. solves e le ∙ sides e le) (λ e le. sym (gathered e) ∙ facts .1 e le) k l
+
+-- the solutions xs of the first k nodes are written into plane `place`
+pub record Written-to {E : Type 0} (q t : ℕ) (nodes : List ℕ) (place : ℕ) (x : ℕ → E) (k : ℕ) (A A′ : ℕ → ℕ → E) : Type 0 where
+  pub made : (j : ℕ) → j < k → A′ (getD nodes j 0) place ≡ x j
+  pub kept : (i p : ℕ) → i < q * t → p < q ^ t → (p ≢ place) ⊎ ((j : ℕ) → j < k → getD nodes j 0 ≢ i) → A′ i p ≡ A i p
+
+module _ {E : Type 0} (q t : ℕ) (nodes : List ℕ) (rises : rising (q * t) nodes ≡ true) (place : ℕ) (lp : place < q ^ t) (x : ℕ → E) where
+  pub written-none : (A : ℕ → ℕ → E) → Written-to q t nodes place x 0 A A
+  written-none A = record { made = λ j l. absurd (omega arith); kept = λ i p li lq h. refl }
+
+  -- one more is written
+  pub written-more : (k : ℕ) → k < length nodes → (A A′ A″ : ℕ → ℕ → E) → Written-to q t nodes place x k A A′
+      → (node : ℕ) (a : E) → node ≡ getD nodes k 0 → a ≡ x k → Wrote (q ^ t) node place a A′ A″
+      → Written-to q t nodes place x (k + 1) A A″
+  written-more k lk A A′ A″ inv node a node-is a-is wrote = record {
+    made = below-next (λ j. A″ (getD nodes j 0) place ≡ x j) k
+        (λ j l. wrote .other (getD nodes j 0) place lp (inl (let r = rising-order (q * t) nodes rises j k l lk in λ e. omega arith)) ∙ inv .made j l)
+        (ap (λ i. A″ i place) (sym node-is) ∙ wrote .here ∙ a-is);
+    kept = λ i p li lq h. go i p li lq h;
+  }
+    where
+      go : (i p : ℕ) → i < q * t → p < q ^ t → (p ≢ place) ⊎ ((j : ℕ) → j < k + 1 → getD nodes j 0 ≢ i) → A″ i p ≡ A i p
+      go i p li lq (inl ne) = wrote .other i p lq (inr ne) ∙ inv .kept i p li lq (inl ne)
+      go i p li lq (inr ne) = wrote .other i p lq (inl (λ e. ne k (omega arith) (sym node-is ∙ sym e))) ∙ inv .kept i p li lq (inr (λ j l. ne j (omega arith)))
+
+-- when all are written, the plane is solved
+pub written-all : {E : Type 0} (f : Arith E) (q t : ℕ) (nodes : List ℕ) (place : ℕ) → place < q ^ t → (xs : List ℕ) (A A′ : ℕ → ℕ → E)
+    → Holds-solution f q t (among nodes) A place nodes xs (length nodes) → Written-to q t nodes place (reads f xs) (length nodes) A A′
+    → PlaneSolved f q t (among nodes) place A A′
+written-all f q t nodes place lp xs A A′ holds inv = record {
+  made = λ i li «in». let r = among-found nodes i «in» in
+      subst (λ j. A′ j place ≡ solution f q t (among nodes) A j place) (r .2) (inv .made (r .0) (r .1) ∙ holds (r .0) (r .1));
+  kept = λ i p li lq h. go i p li lq h;
+}
+  where
+    go : (i p : ℕ) → i < q * t → p < q ^ t → (among nodes i ≡ false) ⊎ (p ≢ place) → A′ i p ≡ A i p
+    go i p li lq (inl out) = inv .kept i p li lq (inr (λ j l e. both-ways (among nodes i) out (among-at nodes j i l e)))
+    go i p li lq (inr ne) = inv .kept i p li lq (inl ne)

@@ -11,7 +11,7 @@ use Rattle.std.proofs.shelf.Tests.{cases-eq}
 use Rattle.field.specs.Field.{Arith, Laws}
 use Rattle.code.specs.Code.{laid}
 use Rattle.code.specs.Reading.{read, symbols}
-use Rattle.code.specs.Steps.{Sound}
+use Rattle.code.specs.Steps.{Sound, Wrote}
 use Rattle.code.proofs.Places.{spot-within}
 use Rattle.code.proofs.Words.{read-written}
 
@@ -40,8 +40,8 @@ module _ {E : Type 0} (f : Arith E) where
       pub write-sound : Sound f (n * places) ws (set ws (i * places + p) (f .code a))
       write-sound = sound-set (n * places) ws (i * places + p) (f .code a) (spot-within n places i p li lp) room (laws .code-below a)
 
-      pub write-here : symbols f places (set ws (i * places + p) (f .code a)) i p ≡ a
-      write-here = ap (read f) (getD-set-same ws (i * places + p) (f .code a) 0 (let l = spot-within n places i p li lp in omega arith)) ∙ read-written f laws a
-
-      pub write-other : (j r : ℕ) → r < places → (j ≢ i) ⊎ (r ≢ p) → symbols f places (set ws (i * places + p) (f .code a)) j r ≡ symbols f places ws j r
-      write-other j r lr ne = ap (read f) (getD-set-other ws (i * places + p) (j * places + r) (f .code a) 0 (spots-apart places i p j r lp lr ne))
+      pub wrote : Wrote places i p a (symbols f places ws) (symbols f places (set ws (i * places + p) (f .code a)))
+      wrote = record {
+        here = ap (read f) (getD-set-same ws (i * places + p) (f .code a) 0 (let l = spot-within n places i p li lp in omega arith)) ∙ read-written f laws a;
+        other = λ j r lr ne. ap (read f) (getD-set-other ws (i * places + p) (j * places + r) (f .code a) 0 (spots-apart places i p j r lp lr ne));
+      }

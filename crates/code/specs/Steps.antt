@@ -13,6 +13,11 @@ use Rattle.code.specs.Code.{minus, moment}
 use Rattle.code.specs.Filling.{score, known, solution, of-pair, turn}
 use Rattle.code.specs.Solving.{Codes, reads}
 
+-- one symbol is written
+pub record Wrote {E : Type 0} (places node place : ℕ) (a : E) (A A′ : ℕ → ℕ → E) : Type 0 where
+  pub here : A′ node place ≡ a
+  pub other : (i p : ℕ) → p < places → (i ≢ node) ⊎ (p ≢ place) → A′ i p ≡ A i p
+
 module _ {E : Type 0} (f : Arith E) where
   -- the words past the used ones are as they were, and codes stay codes
   abbrev pub Sound : (used : ℕ) (before after : List ℕ) → Type 0

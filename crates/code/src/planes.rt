@@ -8,6 +8,7 @@ ghost use Rattle.code.specs.Steps.{Holds-solution, PlaneSolved, Sound, lacks};
 ghost use Rattle.shape.specs.Listing.{outages};
 ghost use Rattle.shape.specs.Outages.{among};
 use crate::arithmetic::element;
+use crate::listing::listed_node;
 use crate::solver::solve_first;
 use crate::symbols::known_sum;
 use crate::symbols::write_symbol;
@@ -63,11 +64,11 @@ pub(crate) fn solve_plane<F: Field>(shape: Shape, out: &OutageList, words: &mut 
     requires place { ⌜ place < shape .q ^ shape .t ⌝ }
     requires room { ⌜ shape .q * shape .t * shape .q ^ shape .t ≤ length (now words) ⌝ }
     requires count { ⌜ now out .count ≡ shape .q * shape .t ⌝ }
+    ensures solved { λ _. ⌜ PlaneSolved (F·Field .arith) (shape .q) (shape .t) (among (outages (now (out .entry)))) place (symbols (F·Field .arith) (shape .q ^ shape .t) (now (words .entry))) (symbols (F·Field .arith) (shape .q ^ shape .t) (now (words .exit))) ⌝ }
+    ensures sound { λ _. ⌜ Sound (F·Field .arith) (shape .q * shape .t * shape .q ^ shape .t) (now (words .entry)) (now (words .exit)) ⌝ }
 {
     let solution = plane_solution::<F>(shape, out, words, place);
     for k in 0..out.len() {
-        if let Some(node) = out.get(k) {
-            write_symbol::<F>(shape, words, node, place, element::<F>(solution[k]));
-        }
+        write_symbol::<F>(shape, words, listed_node(out, k), place, element::<F>(solution[k]));
     }
 }

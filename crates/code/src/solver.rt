@@ -10,6 +10,7 @@ ghost use Rattle.shape.specs.Listing.{outages};
 use crate::arithmetic::difference;
 use crate::arithmetic::element;
 use crate::checking::all_codes;
+use crate::listing::listed_node;
 use field::Field;
 use refusal::Refusal;
 use shape::OutageList;
@@ -18,10 +19,7 @@ use shape::OutageList;
 fn point_at<F: Field>(out: &OutageList, index: usize) -> F::Element
     ensures { λ r. ⌜ r ≡ F·Field .arith .point (getD (outages (now (out .entry))) index 0) ⌝ }
 {
-    match out.get(index) {
-        Some(node) => F::point(node),
-        None => F::point(0),
-    }
+    F::point(listed_node(out, index))
 }
 
 // The sum of the first n elements.

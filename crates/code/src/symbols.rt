@@ -6,6 +6,7 @@ ghost use lib.ListN.{length, set};
 ghost use Rattle.code.specs.Code.{moment, uncoupled};
 ghost use Rattle.code.specs.Filling.{known};
 ghost use Rattle.code.specs.Reading.{symbols};
+ghost use Rattle.code.specs.Steps.{Sound, Wrote};
 ghost use Rattle.shape.specs.Listing.{outages};
 ghost use Rattle.shape.specs.Outages.{among};
 use crate::arithmetic::element;
@@ -46,7 +47,9 @@ pub(crate) fn write_symbol<F: Field>(
     requires node { ⌜ node < shape .q * shape .t ⌝ }
     requires place { ⌜ place < shape .q ^ shape .t ⌝ }
     requires room { ⌜ shape .q * shape .t * shape .q ^ shape .t ≤ length (now words) ⌝ }
-    ensures { λ _. ⌜ now (words .exit) ≡ set (now (words .entry)) (node * shape .q ^ shape .t + place) (F·Field .arith .code a) ⌝ }
+    ensures wrote { λ _. ⌜ Wrote (shape .q ^ shape .t) node place a (symbols (F·Field .arith) (shape .q ^ shape .t) (now (words .entry))) (symbols (F·Field .arith) (shape .q ^ shape .t) (now (words .exit))) ⌝ }
+    ensures sound { λ _. ⌜ Sound (F·Field .arith) (shape .q * shape .t * shape .q ^ shape .t) (now (words .entry)) (now (words .exit)) ⌝ }
+    ensures same { λ _. ⌜ now (words .exit) ≡ set (now (words .entry)) (node * shape .q ^ shape .t + place) (F·Field .arith .code a) ⌝ }
 {
     let at = spot(shape, node, place);
     words[at] = F::code(a);

@@ -1,10 +1,11 @@
 // The console: a line in, the bytes printed out.
 mod command;
+mod input;
 mod parse;
 mod reply;
 mod session;
-mod transcript;
+
 
 pub use session::Session;
-pub use transcript::LIMIT;
-pub use transcript::transcript;
+pub use input::LIMIT;
+pub use input::transcript;

@@ -7,9 +7,12 @@ use Prim.Native.Nat.{ℕ, _+_, _-_, _*_, _^_, _<_, _≤_}
 use lib.ListN.{getD}
 use native.Mathlib.Omega.{arith}
 use lib.Dec.{eqb, ltb}
-use Rattle.std.proofs.shelf.Tests.{cases-eq, cases-bool, not-false, not-true, ltb-true, ltb-false, true≢false}
+use Rattle.std.proofs.shelf.Tests.{cases-eq, cases-bool, not-false, ltb-true, ltb-false, eq-eqb, ne-eqb, cond-true, cond-false, true≢false}
 use Rattle.field.specs.Field.{Arith}
-use Rattle.code.specs.Code.{Words, Codeword, Agrees, OnlyAgrees, Encodes, Refills, OnlyRefill, Only-codeword, Only-help, helps}
+use Rattle.code.specs.Code.{Words, Codeword}
+use Rattle.code.specs.Calls.{Agrees, OnlyAgrees, Encodes, Refills, OnlyRefill, with-node}
+use Rattle.shape.specs.Layout.{helps}
+use Rattle.vault.proofs.Codewords.{Only-help}
 use Rattle.rack.specs.Model.{Model, changed, with-flag, with-word, within, node-within}
 use Rattle.rack.proofs.Models.{changed-same, changed-other}
 use Rattle.refusal.specs.First.{first}
@@ -131,14 +134,18 @@ module _ {E : Type 0} (f : Arith E) (q t : ℕ) (only-help : Only-help f q t) wh
   pub codeword-refills : (w : Words) (i : ℕ) → i < q * t → Codeword f q t w → Refills f q t w i
   codeword-refills w i li cw = record { codes = λ p lp. cw .codes i p li lp; checks = λ p e lp le h. cw .checks p e lp le }
 
+  -- the words of a node that was replaced
+  own : (c : ℕ → ℕ) (w : Words) (i p : ℕ) → with-node f q t w i c i p ≡ c p
+  own c w i p = cond-true (eqb i i) (c p) (w i p) (eq-eqb i i refl)
+
   -- a refill from a codeword's helper words is the codeword's node
   pub refilled : (m : Model) (i : ℕ) (c : ℕ → ℕ) (w : Words) → i < q * t → OnlyRefill f q t (m .words) i c → Codeword f q t w
       → ((j p : ℕ) → j < q * t → (j ≡ i → ⊥) → p < q ^ t → helps q i p ≡ true → m .words j p ≡ w j p)
       → (p : ℕ) → p < q ^ t → c p ≡ w i p
   refilled m i c w li only cw alike p lp =
-      sym (ap (λ (g : ℕ → ℕ). g p) (changed-same (m .words) i c))
-      ∙ only-help (changed (m .words) i c) w i li (only .refills) (codeword-refills w i li cw)
-      (λ j p lj lp h ne. ap (λ (g : ℕ → ℕ). g p) (changed-other (m .words) i j c ne) ∙ alike j p lj ne lp h) p lp
+      sym (own c (m .words) i p)
+      ∙ only-help (with-node f q t (m .words) i c) w i li (only .refills) (codeword-refills w i li cw)
+      (λ j p lj lp h ne. cond-false (eqb j i) (c p) (m .words j p) (ne-eqb j i ne) ∙ alike j p lj ne lp h) p lp
 
   module _ (m m′ : Model) (i space : ℕ) (last : Option (List ℕ)) (b : Bool) (k : Kept m last b) where
     repair-tests : repair-refusal f q t m i space ≡ None → (i < q * t) × (m .flags i ≡ false) × (out-count q t m ≤ 1)
@@ -168,7 +175,8 @@ module _ {E : Type 0} (f : Arith E) (q t : ℕ) (only-help : Only-help f q t) wh
 
         code : (message : List ℕ) → last ≡ Some message → (j p : ℕ) → j < q * t → p < q ^ t → (j ≡ i) ⊎ (j ≡ i → ⊥) → m′ .words j p < f .size
         code message e j p lj lp (inl o) =
-            subst (λ x. x < f .size) (sym (n .has-words j p lj lp ∙ ap (λ x. changed (m .words) i c x p) o)) (only .refills .codes p lp)
+            subst (λ x. x < f .size) (sym (n .has-words j p lj lp ∙ ap (λ x. changed (m .words) i c x p) o ∙ ap (λ (g : ℕ → ℕ). g p) (changed-same (m .words) i c) ∙ sym (own c (m .words) i p)))
+            (only .refills .codes p lp)
         code message e j p lj lp (inr o) =
             subst (λ x. x < f .size) (sym (n .has-words j p lj lp ∙ ap (λ (g : ℕ → ℕ). g p) (changed-other (m .words) i j c o)))
             (k .codes message e j p lj lp (others j lj o))

@@ -4,7 +4,7 @@ use mathlib.Core.Logic.{_⊎_, inl, inr}
 use mathlib.Core.Bool.{Bool, true, false, cond, not, _||_}
 use mathlib.Core.List.{List}
 use Prim.Native.Nat.{ℕ, _+_, _-_, _*_, _/_, _%_, _^_, _<_, _≤_}
-use native.Mathlib.Nat.{div-add-mod', mod-lt, mul-le-mul-left, div-lt-iff-lt-mul}
+use native.Mathlib.Nat.{div-add-mod', mod-lt}
 use native.Mathlib.Omega.{arith}
 use lib.Dec.{eqb, ltb}
 use lib.ListN.{length, getD}
@@ -12,7 +12,10 @@ use Rattle.std.proofs.shelf.Tests.{cases-eq, cases-bool, not-false, not-true, l
 use Rattle.field.specs.Field.{Arith}
 use Rattle.shape.specs.Outages.{count, every}
 use Rattle.shape.proofs.Every.{every-at, every-from}
-use Rattle.code.specs.Code.{Words, Codeword, Agrees, Encodes, Only-codeword, Only-help, helps}
+use Rattle.code.specs.Code.{Words, Codeword}
+use Rattle.code.specs.Calls.{Agrees, Encodes, good-help, good-standing}
+use Rattle.shape.specs.Layout.{helps}
+use Rattle.vault.proofs.Codewords.{Only-codeword, Only-help}
 use Rattle.rack.specs.Model.{Model, changed, risen, node-within}
 use Rattle.rack.proofs.Models.{changed-same}
 use Rattle.refusal.specs.declared.reason.Refusal.{Refusal}
@@ -22,8 +25,9 @@ use Rattle.std.specs.declared.option.Option.the-variants.{Some, None}
 use Rattle.std.specs.declared.result.Result.{Result}
 use Rattle.std.specs.declared.result.Result.the-variants.{Ok, Err}
 use Rattle.vault.specs.declared.answer.Answer.{Answer}
-use Rattle.vault.specs.Calls.{wrong-size, short, out-count, Now, Repair, Recover, Read, repair-refusal, recover-refusal, good-help, good-standing, repair-meters, NotRepaired, NotRecovered, Unrecovered}
+use Rattle.vault.specs.Calls.{wrong-size, short, out-count, Now, Repair, Recover, Read, repair-refusal, recover-refusal, repair-meters, NotRepaired, NotRecovered, Unrecovered}
 use Rattle.vault.specs.History.{Event, After, altered, last-message, differs, differ-count, RecoverPromise, RecoverHolds, RepairPromise, RepairHolds, ReadPromise}
+use Rattle.vault.proofs.Fetching.{data-node, among-all}
 use Rattle.vault.proofs.Refusing.{first-none, first-pass, sized}
 use Rattle.vault.proofs.Tallies.{count-none, count-zero, count-either}
 use Rattle.vault.proofs.Invariant.{Kept, keeps, others-stand, refilled}
@@ -75,7 +79,7 @@ module _ {E : Type 0} (f : Arith E) (q t : ℕ) (only-help : Only-help f q t) (o
       first-pass (wrong-size q t m) Size _ (sized q t m a b) ∙ first-pass (short q t space) WorkSpace _ s
       ∙ first-pass (ltb q (out-count q t m)) TooManyOut None (le-ltb q (out-count q t m) few)
 
-  standing-codes : (m : Model) → ((i p : ℕ) → i < q * t → p < q ^ t → m .flags i ≡ true → m .words i p < f .size) → good-standing f q t m ≡ true
+  standing-codes : (m : Model) → ((i p : ℕ) → i < q * t → p < q ^ t → m .flags i ≡ true → m .words i p < f .size) → good-standing f q t (m .flags) (m .words) ≡ true
   standing-codes m codes = every-from (λ i. cond (m .flags i) (every (λ p. ltb (m .words i p) (f .size)) (q ^ t)) true) (q * t) (λ i li. go i li (cases-bool (m .flags i)))
     where
       go : (i : ℕ) → i < q * t → (m .flags i ≡ true) ⊎ (m .flags i ≡ false) → cond (m .flags i) (every (λ p. ltb (m .words i p) (f .size)) (q ^ t)) true ≡ true
@@ -97,7 +101,7 @@ module _ {E : Type 0} (f : Arith E) (q t : ℕ) (only-help : Only-help f q t) (o
         none-differs = λ b e. count-none (differs f q t m′ w) (q * t) (λ i li. not-different m′ w i (λ up p lp. now .has-words i p li lp ∙ is i p li lp));
       }
   recover-promise m space (Err e) m′ s es message w after room few = record {
-    accepted = λ z. absurd (go (good-standing f q t m) (standing-codes m (k .codes message (after .stored))) (unrefused .1) z);
+    accepted = λ z. absurd (go (good-standing f q t (m .flags) (m .words)) (standing-codes m (k .codes message (after .stored))) (unrefused .1) z);
     none-differed = λ b e. absurd (never e);
     all-stand = λ b e. absurd (never e);
     none-differs = λ b e. absurd (never e);
@@ -119,7 +123,7 @@ module _ {E : Type 0} (f : Arith E) (q t : ℕ) (only-help : Only-help f q t) (o
       ∙ first-pass (not (node-within m i)) NoSuchPlace _ (ap not (lt-ltb i (m .nodes) (subst (λ n. i < n) (sym a) li)))
       ∙ first-pass (m .flags i) NodeStands _ out ∙ first-pass (ltb 1 (out-count q t m)) AnotherOut None (le-ltb 1 (out-count q t m) (omega arith))
 
-  help-codes : (m : Model) (i : ℕ) → ((j p : ℕ) → j < q * t → (j ≡ i → ⊥) → p < q ^ t → m .words j p < f .size) → good-help f q t m i ≡ true
+  help-codes : (m : Model) (i : ℕ) → ((j p : ℕ) → j < q * t → (j ≡ i → ⊥) → p < q ^ t → m .words j p < f .size) → good-help f q t (m .words) i ≡ true
   help-codes m i codes =
       every-from (λ j. cond (eqb j i) true (every (λ p. cond (helps q i p) (ltb (m .words j p) (f .size)) true) (q ^ t))) (q * t) (λ j lj. go j lj (cases-bool (eqb j i)))
     where
@@ -165,14 +169,8 @@ module _ {E : Type 0} (f : Arith E) (q t : ℕ) (only-help : Only-help f q t) (o
       let three = first-none (not (every (λ j. m .flags ((start + j) / q ^ t)) (length buffer))) NodeOut None (two .1) .0 in
       let up : m .flags n ≡ true = every-at (λ j. m .flags ((start + j) / q ^ t)) (length buffer) (not-false (every (λ j. m .flags ((start + j) / q ^ t)) (length buffer)) three) j lb in
       let within : x < q * (t - 1) * P = omega (arith, ltb-false (q * (t - 1) * q ^ t) (start + length buffer) (two .0)) in
-      let data-node : n < q * (t - 1) = div-below x P (q * (t - 1)) pos within in
-      let node : n < q * t = below-all n data-node in
+      let first : n < q * (t - 1) = data-node x P (q * (t - 1)) pos within in
+      let node : n < q * t = among-all q t n first in
       let place : p < P = mod-lt x pos in
-      s .4 j lb ∙ k .stored message w (after .stored) none (after .encodes) n p node place up ∙ after .encodes .carries n p data-node place
+      s .4 j lb ∙ k .stored message w (after .stored) none (after .encodes) n p node place up ∙ after .encodes .carries n p first place
       ∙ ap (λ y. getD message y 0) (div-add-mod' x P)
-    where
-      below-all : (n : ℕ) → n < q * (t - 1) → n < q * t
-      below-all n l = let k = mul-le-mul-left {m = t - 1} {n = t} q (omega arith) in omega arith
-
-      div-below : (x P k : ℕ) → 0 < P → x < k * P → x / P < k
-      div-below x P k pos l = div-lt-iff-lt-mul pos .1 l

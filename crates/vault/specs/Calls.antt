@@ -7,7 +7,8 @@ use lib.Dec.{eqb, ltb}
 use lib.ListN.{length, getD, drop}
 use Rattle.field.specs.Field.{Arith}
 use Rattle.shape.specs.Outages.{count, every, listed}
-use Rattle.code.specs.Code.{Words, Agrees, OnlyAgrees, Encodes, OnlyRefill, helps}
+use Rattle.code.specs.Code.{Words}
+use Rattle.code.specs.Calls.{Agrees, OnlyAgrees, Encodes, OnlyRefill, all-codes, good-standing, good-help}
 use Rattle.refusal.specs.First.{first}
 use Rattle.refusal.specs.Numbers.{number-of}
 use Rattle.rack.specs.Model.{Model, changed, risen, with-flag, with-word, within, node-within}
@@ -101,16 +102,13 @@ module _ {E : Type 0} (f : Arith E) (q t : ℕ) where
   Alter m i p w (Ok a) m′ = (alter-refusal m i p w ≡ None) × (a ≡ answer 0 0) × (m′ ≡ with-word m i p w)
   Alter m i p w (Err e) m′ = (alter-refusal m i p w ≡ Some e) × (m′ ≡ m)
 
-  -- ---- store: every word of the message is a code; then the only codeword that carries it stands in every node
-  abbrev pub all-codes : List ℕ → Bool
-  all-codes message = every (λ j. ltb (getD message j 0) (f .size)) (length message)
-
+  -- ---- store: past the tests the only codeword that carries the message stands in every node
   abbrev pub store-refusal : Model → List ℕ → ℕ → Option Refusal
   store-refusal m message space =
       first (wrong-size q t m) Size
       (first (not (eqb (length message) (q * (t - 1) * q ^ t))) MessageLength
       (first (short q t space) WorkSpace
-      (first (not (all-codes message)) NoCode None)))
+      (first (not (all-codes f message)) NoCode None)))
 
   abbrev pub Store : Model → List ℕ → ℕ → Result Answer Refusal → Model → Type 0
   Store m message space (Ok a) m′ =
@@ -126,31 +124,23 @@ module _ {E : Type 0} (f : Arith E) (q t : ℕ) where
       (first (m .flags i) NodeStands
       (first (ltb 1 (out-count q t m)) AnotherOut None))))
 
-  -- every helper word is a code
-  abbrev pub good-help : Model → ℕ → Bool
-  good-help m i = every (λ j. cond (eqb j i) true (every (λ p. cond (helps q i p) (ltb (m .words j p) (f .size)) true) (q ^ t))) (q * t)
-
   abbrev pub repair-meters : Model → ℕ → ℕ → ℕ
   repair-meters m i j = cond (eqb j i) (m .meters j) (risen (m .meters j) (q ^ (t - 1)))
 
   -- a repair that was refused: by a test, which changes nothing, or after everything was drawn
   abbrev pub NotRepaired : Model → ℕ → Refusal → Model → Option Refusal → Type 0
   NotRepaired m i e m′ (Some r) = (e ≡ r) × (m′ ≡ m)
-  NotRepaired m i e m′ None = (e ≡ BadWord) × (good-help m i ≡ false) × Now q t m (m .flags) (m .words) (repair-meters m i) m′
+  NotRepaired m i e m′ None = (e ≡ BadWord) × (good-help f q t (m .words) i ≡ false) × Now q t m (m .flags) (m .words) (repair-meters m i) m′
 
   abbrev pub Repair : Model → ℕ → ℕ → Result Answer Refusal → Model → Type 0
   Repair m i space (Ok a) m′ =
-      (repair-refusal m i space ≡ None) × (good-help m i ≡ true) × (a ≡ answer 1 ((q * t - 1) * q ^ (t - 1)))
+      (repair-refusal m i space ≡ None) × (good-help f q t (m .words) i ≡ true) × (a ≡ answer 1 ((q * t - 1) * q ^ (t - 1)))
       × ((c : ℕ → ℕ) × (OnlyRefill f q t (m .words) i c × Now q t m (changed (m .flags) i true) (changed (m .words) i c) (repair-meters m i) m′))
   Repair m i space (Err e) m′ = NotRepaired m i e m′ (repair-refusal m i space)
 
   -- ---- recover: it gets every place of every standing node
   abbrev pub recover-refusal : Model → ℕ → Option Refusal
   recover-refusal m space = first (wrong-size q t m) Size (first (short q t space) WorkSpace (first (ltb q (out-count q t m)) TooManyOut None))
-
-  -- every word of every standing node is a code
-  abbrev pub good-standing : Model → Bool
-  good-standing m = every (λ i. cond (m .flags i) (every (λ p. ltb (m .words i p) (f .size)) (q ^ t)) true) (q * t)
 
   abbrev pub recover-meters : Model → ℕ → ℕ
   recover-meters m i = cond (m .flags i) (risen (m .meters i) (q ^ t)) (m .meters i)
@@ -163,7 +153,7 @@ module _ {E : Type 0} (f : Arith E) (q t : ℕ) where
   -- a recover that was refused: by a test, which changes nothing, or after everything was drawn
   abbrev pub NotRecovered : Model → Refusal → Model → Option Refusal → Type 0
   NotRecovered m e m′ (Some r) = (e ≡ r) × (m′ ≡ m)
-  NotRecovered m e m′ None = Now q t m (m .flags) (m .words) (recover-meters m) m′ × Unrecovered m e (good-standing m)
+  NotRecovered m e m′ None = Now q t m (m .flags) (m .words) (recover-meters m) m′ × Unrecovered m e (good-standing f q t (m .flags) (m .words))
 
   abbrev pub Recover : Model → ℕ → Result Answer Refusal → Model → Type 0
   Recover m space (Ok a) m′ =

@@ -1,10 +1,13 @@
 // The vault: one message, coded over the nodes of one rack.
 pub mod answer;
-pub mod calls;
+pub mod coding;
+mod drawing;
 pub mod owner;
 pub mod reading;
 mod selection;
-mod steps;
+mod sizes;
+pub mod small;
+mod writing;
 
 pub use answer::Answer;
 pub use answer::AnswerDebug;

@@ -1,67 +1,20 @@
-// The calls of a vault, each as a function of the shape, the rack and the arguments.
+// The calls that write nodes: store, repair and recover.
 use crate::answer::Answer;
+use crate::drawing::draw;
 use crate::selection::Selection;
-use crate::steps::draw;
-use crate::steps::fits;
-use crate::steps::outages;
-use crate::steps::roomy;
-use crate::steps::write_listed;
-use crate::steps::write_node;
+use crate::sizes::all_nodes;
+use crate::sizes::fits;
+use crate::sizes::outages;
+use crate::sizes::roomy;
+use crate::writing::write_listed;
+use crate::writing::write_node;
 use code::encode;
 use code::rebuild;
 use code::restore;
 use field::Field;
 use rack::Rack;
 use refusal::Refusal;
-use shape::OutageList;
 use shape::Shape;
-
-// The nodes that are out.
-pub fn tell<R: Rack>(shape: Shape, rack: &R) -> Result<OutageList, Refusal> {
-    fits(shape, rack)?;
-    Ok(outages(shape, rack))
-}
-
-// Makes a standing node out.
-pub fn drop_node<R: Rack>(shape: Shape, rack: &mut R, node: usize) -> Result<Answer, Refusal> {
-    fits(shape, rack)?;
-    if node >= shape.nodes() {
-        return Err(Refusal::NoSuchPlace);
-    }
-    if !rack.stands(node) {
-        return Err(Refusal::NodeOut);
-    }
-    rack.take_out(node)?;
-    Ok(Answer {
-        filled: 0,
-        drawn: 0,
-    })
-}
-
-// Puts one code into a standing node.
-pub fn alter<F: Field, R: Rack>(
-    shape: Shape,
-    rack: &mut R,
-    node: usize,
-    place: usize,
-    word: u16,
-) -> Result<Answer, Refusal> {
-    fits(shape, rack)?;
-    if u32::from(word) >= F::codes() {
-        return Err(Refusal::NoCode);
-    }
-    if node >= shape.nodes() || place >= shape.places() {
-        return Err(Refusal::NoSuchPlace);
-    }
-    if !rack.stands(node) {
-        return Err(Refusal::NodeOut);
-    }
-    rack.put(node, place, word)?;
-    Ok(Answer {
-        filled: 0,
-        drawn: 0,
-    })
-}
 
 // Writes the codeword that carries the message, and raises every node.
 pub fn store<F: Field, R: Rack>(
@@ -72,9 +25,8 @@ pub fn store<F: Field, R: Rack>(
 ) -> Result<Answer, Refusal> {
     fits(shape, rack)?;
     encode::<F>(shape, message, space)?;
-    for i in 0..shape.nodes() {
-        write_node(shape, rack, i, space)?;
-    }
+    roomy(shape, space)?;
+    write_listed(shape, rack, &all_nodes(shape), space)?;
     Ok(Answer {
         filled: shape.nodes(),
         drawn: 0,

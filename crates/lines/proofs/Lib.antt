@@ -1,0 +1,4 @@
+pub mod Scan
+pub mod Values
+pub mod Spaced
+pub mod Gathered

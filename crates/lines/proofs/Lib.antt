@@ -1,3 +1,4 @@
+pub mod Asked
 pub mod Scan
 pub mod Values
 pub mod Spaced

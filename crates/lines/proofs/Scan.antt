@@ -1,11 +1,12 @@
 -- A line that is scanned for the end of its first item.
 use mathlib.Core.Bool.{Bool, true, false, cond}
 use mathlib.Core.List.{List, [], _∷_, _++_, append-assoc}
-use mathlib.Core.Path.{_≡_, refl, sym, ap, _∙_}
+use mathlib.Core.Path.{_≡_, refl, sym, ap, subst, _∙_}
 use Prim.Native.Nat.{ℕ, _+_, _<_, _≤_}
 use lib.Dec.{eqb, ltb}
 use lib.ListN.{length, getD, take, drop}
 use Rattle.std.proofs.shelf.Lists.{drop-more, drop-all, take-more, append-nil}
+use native.Mathlib.Omega.{arith}
 use borrow.Author.Tests.{eq-eqb, ne-eqb, lt-ltb, le-ltb}
 use Rattle.lines.specs.Items.{items, before-first, items-after}
 
@@ -47,9 +48,11 @@ scanned-space line i h space s =
     ∙ ap (λ p. p ∷ items (drop (i + 1) line)) (append-nil (take i line))
     ∙ ap (λ t. take i line ∷ cond t (items (drop (i + 1) line)) []) (sym (lt-ltb i (length line) h))
 
-pub scanned-all : (line : List ℕ) (i : ℕ) → length line ≤ i → Scanned line i → items line ≡ take i line ∷ items-after i line
+pub scanned-all : (line : List ℕ) (i : ℕ) → i ≤ length line → length line ≤ i → Scanned line i → items line ≡ take (length line) line ∷ items-after (length line) line
 unfolding items
-scanned-all line i h s =
-    s ∙ ap (λ ws. before-first (take i line) (items ws)) (drop-all i line h)
-    ∙ ap (λ p. p ∷ []) (append-nil (take i line))
-    ∙ ap (λ t. take i line ∷ cond t (items (drop (i + 1) line)) []) (sym (le-ltb i (length line) h))
+scanned-all line i most least s =
+    let e : i ≡ length line = omega arith in
+    let t : Scanned line (length line) = subst (Scanned line) e s in
+    t ∙ ap (λ ws. before-first (take (length line) line) (items ws)) (drop-all (length line) line (omega arith))
+    ∙ ap (λ p. p ∷ []) (append-nil (take (length line) line))
+    ∙ ap (λ b. take (length line) line ∷ cond b (items (drop (length line + 1) line)) []) (sym (le-ltb (length line) (length line) (omega arith)))

@@ -1,14 +1,11 @@
 -- What a line asks for. Assumes nothing.
-use mathlib.Core.Bool.{cond, _&&_}
+use mathlib.Core.Bool.{cond}
 use mathlib.Core.List.{List, [], _∷_}
 use Prim.Native.Nat.{ℕ}
 use lib.Chars.{codes}
-use lib.Dec.{eqb}
-use lib.ListN.{length}
 use Rattle.std.specs.declared.option.Option.{Option}
 use Rattle.std.specs.declared.option.Option.the-variants.{Some, None}
 use Rattle.std.specs.shelf.Text.{sameBytes}
-use Rattle.std.specs.Options.{mapped}
 use Rattle.std.specs.Of.Vec.{vec-items}
 use Rattle.lines.specs.declared.command.Command.{Command}
 use Rattle.lines.specs.declared.command.Command.the-variants as command
@@ -37,39 +34,41 @@ requested (command.Repair i) = repairs i
 requested command.Recover = recovers
 requested (command.Read start count) = reads start count
 
--- the one number of a list that has one; and so for two and three
-abbrev pub one-of : List ℕ → Option ℕ
-one-of [] = None
-one-of (a ∷ []) = Some a
-one-of (a ∷ b ∷ more) = None
+-- a request that takes no number, one, two or three, with these numbers; none where they are fewer or more
+abbrev pub with-none : Request → List ℕ → Option Request
+with-none r [] = Some r
+with-none r (a ∷ more) = None
 
-abbrev pub two-of : List ℕ → Option (ℕ × ℕ)
-two-of [] = None
-two-of (a ∷ []) = None
-two-of (a ∷ b ∷ []) = Some (a, b)
-two-of (a ∷ b ∷ c ∷ more) = None
+abbrev pub with-one : (ℕ → Request) → List ℕ → Option Request
+with-one r [] = None
+with-one r (a ∷ []) = Some (r a)
+with-one r (a ∷ b ∷ more) = None
 
-abbrev pub three-of : List ℕ → Option (ℕ × ℕ × ℕ)
-three-of [] = None
-three-of (a ∷ []) = None
-three-of (a ∷ b ∷ []) = None
-three-of (a ∷ b ∷ c ∷ []) = Some (a, b, c)
-three-of (a ∷ b ∷ c ∷ d ∷ more) = None
+abbrev pub with-two : (ℕ → ℕ → Request) → List ℕ → Option Request
+with-two r [] = None
+with-two r (a ∷ []) = None
+with-two r (a ∷ b ∷ []) = Some (r a b)
+with-two r (a ∷ b ∷ c ∷ more) = None
 
--- what a word other than `store` asks for with the numbers after it
-unfoldable pub called : List ℕ → List ℕ → Option Request
-called word ns =
-    cond (sameBytes word (codes "byte")) (mapped (λ n. opens kind.Byte (n .0) (n .1)) (two-of ns))
-    (cond (sameBytes word (codes "prime")) (mapped (λ n. opens kind.Prime (n .0) (n .1)) (two-of ns))
-    (cond (sameBytes word (codes "drop")) (mapped drops (one-of ns))
-    (cond (sameBytes word (codes "alter")) (mapped (λ n. alters (n .0) (n .1) (n .2)) (three-of ns))
-    (cond (sameBytes word (codes "repair")) (mapped repairs (one-of ns))
-    (cond (sameBytes word (codes "read")) (mapped (λ n. reads (n .0) (n .1)) (two-of ns))
-    (cond (sameBytes word (codes "recover") && eqb (length ns) 0) (Some recovers) None))))))
+abbrev pub with-three : (ℕ → ℕ → ℕ → Request) → List ℕ → Option Request
+with-three r [] = None
+with-three r (a ∷ []) = None
+with-three r (a ∷ b ∷ []) = None
+with-three r (a ∷ b ∷ c ∷ []) = Some (r a b c)
+with-three r (a ∷ b ∷ c ∷ d ∷ more) = None
 
 -- what a word asks for with the numbers after it
 unfoldable pub asked : List ℕ → List ℕ → Option Request
-asked word ns = cond (sameBytes word (codes "store")) (Some (stores ns)) (called word ns)
+asked word ns =
+    cond (sameBytes word (codes "store")) (Some (stores ns))
+    (cond (sameBytes word (codes "byte")) (with-two (opens kind.Byte) ns)
+    (cond (sameBytes word (codes "prime")) (with-two (opens kind.Prime) ns)
+    (cond (sameBytes word (codes "drop")) (with-one drops ns)
+    (cond (sameBytes word (codes "alter")) (with-three alters ns)
+    (cond (sameBytes word (codes "repair")) (with-one repairs ns)
+    (cond (sameBytes word (codes "recover")) (with-none recovers ns)
+    (cond (sameBytes word (codes "read")) (with-two reads ns)
+    None)))))))
 
 -- what a word asks for, with the numbers after it if they are numbers
 abbrev pub asked-if : List ℕ → Option (List ℕ) → Option Request

@@ -8,7 +8,7 @@ ghost use Rattle.std.specs.shelf.Text.{sameBytes};
 ghost use Rattle.std.specs.Vec.{made};
 ghost use Rattle.lines.specs.Items.{items, items-after};
 ghost use Rattle.lines.specs.Numbers.{numbers-in};
-ghost use Rattle.lines.specs.Requests.{asked, called, one-of, request, requested, three-of, two-of};
+ghost use Rattle.lines.specs.Requests.{alters, asked, drops, opens, reads, recovers, repairs, request, requested, with-none, with-one, with-three, with-two};
 use crate::command::Command;
 use crate::command::Kind;
 use crate::items::item_end;
@@ -57,78 +57,96 @@ fn spells(word: &[u8], name: &[u8]) -> bool
     word == name
 }
 
-// A single number.
-fn one(numbers: &[u16]) -> Option<u16>
-    ensures { λ r. ⌜ r ≡ one-of (now (numbers .entry)) ⌝ }
+// Opening takes two numbers.
+fn opening(kind: Kind, numbers: &[u16]) -> Option<Command>
+    ensures { λ r. ⌜ mapped requested r ≡ with-two (opens kind) (now (numbers .entry)) ⌝ }
 {
     match *numbers {
-        [a] => Some(a),
+        [q, t] => Some(Command::Open(kind, q, t)),
         _ => None,
     }
 }
 
-// Two numbers.
-fn two(numbers: &[u16]) -> Option<(u16, u16)>
-    ensures { λ r. ⌜ r ≡ two-of (now (numbers .entry)) ⌝ }
+// Dropping takes one.
+fn dropping(numbers: &[u16]) -> Option<Command>
+    ensures { λ r. ⌜ mapped requested r ≡ with-one drops (now (numbers .entry)) ⌝ }
 {
     match *numbers {
-        [a, b] => Some((a, b)),
+        [i] => Some(Command::DropNode(i)),
         _ => None,
     }
 }
 
-// Three numbers.
-fn three(numbers: &[u16]) -> Option<(u16, u16, u16)>
-    ensures { λ r. ⌜ r ≡ three-of (now (numbers .entry)) ⌝ }
+// Altering takes three.
+fn altering(numbers: &[u16]) -> Option<Command>
+    ensures { λ r. ⌜ mapped requested r ≡ with-three alters (now (numbers .entry)) ⌝ }
 {
     match *numbers {
-        [a, b, c] => Some((a, b, c)),
+        [i, p, w] => Some(Command::Alter(i, p, w)),
         _ => None,
     }
 }
 
-// What a word other than `store` asks for with the numbers after it.
-fn call(word: &[u8], numbers: &[u16]) -> Option<Command>
-    ensures { λ r. ⌜ mapped requested r ≡ called (now (word .entry)) (now (numbers .entry)) ⌝ }
+// Repairing takes one.
+fn repairing(numbers: &[u16]) -> Option<Command>
+    ensures { λ r. ⌜ mapped requested r ≡ with-one repairs (now (numbers .entry)) ⌝ }
 {
-    if spells(word, b"byte") {
-        let (q, t) = two(numbers)?;
-        return Some(Command::Open(Kind::Byte, q, t));
+    match *numbers {
+        [i] => Some(Command::Repair(i)),
+        _ => None,
     }
-    if spells(word, b"prime") {
-        let (q, t) = two(numbers)?;
-        return Some(Command::Open(Kind::Prime, q, t));
+}
+
+// Recovering takes none.
+fn recovering(numbers: &[u16]) -> Option<Command>
+    ensures { λ r. ⌜ mapped requested r ≡ with-none recovers (now (numbers .entry)) ⌝ }
+{
+    match *numbers {
+        [] => Some(Command::Recover),
+        _ => None,
     }
-    if spells(word, b"drop") {
-        let i = one(numbers)?;
-        return Some(Command::DropNode(i));
+}
+
+// Reading takes two.
+fn reading_words(numbers: &[u16]) -> Option<Command>
+    ensures { λ r. ⌜ mapped requested r ≡ with-two reads (now (numbers .entry)) ⌝ }
+{
+    match *numbers {
+        [start, count] => Some(Command::Read(start, count)),
+        _ => None,
     }
-    if spells(word, b"alter") {
-        let (i, p, w) = three(numbers)?;
-        return Some(Command::Alter(i, p, w));
-    }
-    if spells(word, b"repair") {
-        let i = one(numbers)?;
-        return Some(Command::Repair(i));
-    }
-    if spells(word, b"read") {
-        let (start, count) = two(numbers)?;
-        return Some(Command::Read(start, count));
-    }
-    if spells(word, b"recover") && numbers.is_empty() {
-        return Some(Command::Recover);
-    }
-    None
 }
 
 // What a word asks for with the numbers after it.
-fn command(word: &[u8], found: Vec<u16>) -> Option<Command>
+fn command_of(word: &[u8], found: Vec<u16>) -> Option<Command>
     ensures { λ r. ⌜ mapped requested r ≡ asked (now (word .entry)) (vec-items found) ⌝ }
 {
     if spells(word, b"store") {
         return Some(Command::Store(found));
     }
-    call(word, found.as_slice())
+    let numbers = found.as_slice();
+    if spells(word, b"byte") {
+        return opening(Kind::Byte, numbers);
+    }
+    if spells(word, b"prime") {
+        return opening(Kind::Prime, numbers);
+    }
+    if spells(word, b"drop") {
+        return dropping(numbers);
+    }
+    if spells(word, b"alter") {
+        return altering(numbers);
+    }
+    if spells(word, b"repair") {
+        return repairing(numbers);
+    }
+    if spells(word, b"recover") {
+        return recovering(numbers);
+    }
+    if spells(word, b"read") {
+        return reading_words(numbers);
+    }
+    None
 }
 
 // What a line, without its line end, asks for; none where it is no command.
@@ -139,5 +157,5 @@ pub fn parse(heap: Global, line: &[u8]) -> Result<Option<Command>, AllocError>
     let Some(found) = numbers_after(heap, line, end)? else {
         return Ok(None);
     };
-    Ok(command(&line[0..end], found))
+    Ok(command_of(&line[0..end], found))
 }

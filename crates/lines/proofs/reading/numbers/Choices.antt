@@ -1,10 +1,12 @@
 use lib.ListN.{length}
 use Rattle.std.specs.Of.Vec.{vec-items}
+use Rattle.lines.specs.Items.{items}
+use Rattle.lines.specs.Numbers.{numbers-in}
 use Rattle.lines.proofs.Gathered.{Gathered}
 use Rattle.lines.proofs.reading.numbers.Given as given
 
 abbrev pub Inv-loop-n : given.InvT-loop-n
-Inv-loop-n l = Gathered (l .text) (vec-items (l .found)) (l .rest)
+Inv-loop-n l = Gathered (numbers-in (items (l .text))) (vec-items (l .found)) (items (l .rest))
 
 abbrev pub μ-loop-n : given.MeasureT-loop-n
 μ-loop-n l = length (l .rest)

@@ -32,14 +32,14 @@ gathered-more all found left item more n g cut e =
     g ∙ ap (λ is. mapped (λ ns. found ++ ns) (numbers-in is)) cut
     ∙ ap (λ o. mapped (λ ns. found ++ ns) (with-first o (numbers-in more))) (sym e)
     ∙ elim (numbers-in more) as (λ o. mapped (λ ns. found ++ ns) (mapped (λ ns. n ∷ ns) o) ≡ mapped (λ ns. (found ++ n ∷ []) ++ ns) o)
-      [ None ↦ refl | Some ns ↦ ap Some (sym (append-assoc found (n ∷ []) ns)) ]
+    [ None ↦ refl | Some ns ↦ ap Some (sym (append-assoc found (n ∷ []) ns)) ]
 
 gathered-all : (all : Option (List ℕ)) (found : List ℕ) → Gathered all found [] → all ≡ Some found
 unfolding numbers-in
 gathered-all all found g = g ∙ ap Some (append-nil found)
 
 -- `&line[0..end]` and `&line[end + 1..]`, as the checker reads them
-front : (line : List ℕ) (end : ℕ) → take (end - 0) line ≡ take end line
+pub front : (line : List ℕ) (end : ℕ) → take (end - 0) line ≡ take end line
 front line end = ap (λ n. take n line) (sub-zero end)
 
 abbrev pub after : List ℕ → ℕ → List ℕ

@@ -1,5 +1,6 @@
 pub mod Asked
-pub mod Scan
-pub mod Values
-pub mod Spaced
+pub mod Examples
 pub mod Gathered
+pub mod Scan
+pub mod Spaced
+pub mod Values

@@ -18,9 +18,9 @@ before-nothing : (line : List ℕ) → before-first [] (items line) ≡ items li
 unfolding items
 before-nothing [] = refl
 before-nothing (b ∷ bs) =
-    elim (eqb b 32) as (λ t. before-first [] (cond t ([] ∷ items bs) (before-first (b ∷ []) (items bs))) ≡ cond t ([] ∷ items bs) (before-first (b ∷ []) (items bs)))
-    [ true ↦ refl
-    | false ↦ elim (items bs) as (λ ws. before-first [] (before-first (b ∷ []) ws) ≡ before-first (b ∷ []) ws) [ [] ↦ refl | _∷_ w ws ↦ refl ]
+    elim (eqb b 32) as (λ t. before-first [] (cond t ([] ∷ items bs) (before-first (b ∷ []) (items bs))) ≡ cond t ([] ∷ items bs) (before-first (b ∷ []) (items bs))) [
+      | true ↦ refl
+      | false ↦ elim (items bs) as (λ ws. before-first [] (before-first (b ∷ []) ws) ≡ before-first (b ∷ []) ws) [ [] ↦ refl | _∷_ w ws ↦ refl ]
     ]
 
 before-both : (p : List ℕ) (b : ℕ) (ws : List (List ℕ)) → before-first p (before-first (b ∷ []) ws) ≡ before-first (p ++ b ∷ []) ws

@@ -31,10 +31,10 @@ valued-more item i value d h low high is v =
     let l = le-leb 48 (getD item i 0) low in
     let m = le-leb (getD item i 0) 57 high in
     let all : all-digits (drop i item) ≡ all-digits (drop (i + 1) item) =
-      ap all-digits e ∙ ap (λ t. t && leb (getD item i 0) 57 && all-digits (drop (i + 1) item)) l ∙ ap (λ t. t && all-digits (drop (i + 1) item)) m in
+    ap all-digits e ∙ ap (λ t. t && leb (getD item i 0) 57 && all-digits (drop (i + 1) item)) l ∙ ap (λ t. t && all-digits (drop (i + 1) item)) m in
     let p : 10 ^ (i + 1) ≡ 10 ^ i * 10 = rw add-one (pow-suc 10 i) in
     let next : value-after (value * 10 + d) (drop (i + 1) item) ≡ value-after value (drop i item) =
-      ap (λ k. value-after (value * 10 + k) (drop (i + 1) item)) is ∙ sym (ap (value-after value) e) in
+    ap (λ k. value-after (value * 10 + k) (drop (i + 1) item)) is ∙ sym (ap (value-after value) e) in
     (sym all ∙ v .0, next ∙ v .1, omega (arith, p, v .2))
 
 -- a byte that is no digit

@@ -5,12 +5,12 @@ use Prim.Native.Nat.{ℕ, zero, suc, _+_, _/_, _%_}
 use lib.Chars.{codes}
 use lib.Dec.{ltb}
 
--- the last k decimal digits of a number, without leading zeros
+-- the last k decimal digits of a number; all of them where it has fewer
 abbrev pub digits : ℕ → ℕ → List ℕ
 digits zero n = []
 digits (suc k) n = cond (ltb n 10) ((48 + n) ∷ []) (digits k (n / 10) ++ (48 + n % 10) ∷ [])
 
--- the decimal digits of a number, without leading zeros; it has at most n + 1 of them
+-- a number in decimal, without leading zeros: it has at most n + 1 digits
 unfoldable pub decimal : ℕ → List ℕ
 decimal n = digits (n + 1) n
 

@@ -1,9 +1,10 @@
 // The lines of the console: what a line asks for, and what is printed as its answer.
 pub mod command;
 mod items;
-mod number;
-pub mod printing;
-pub mod reading;
+mod numbers;
+mod printing;
+mod reading;
+mod words;
 
 pub use command::Command;
 pub use command::Kind;

@@ -43,7 +43,12 @@ pub fn print_no(out: &mut String, why: Refusal) -> Result<(), AllocError>
 }
 
 // The answer to a call that was accepted; after a read, with the words.
-pub fn print_ok(out: &mut String, filled: usize, drawn: usize, words: &[u16]) -> Result<(), AllocError>
+pub fn print_ok(
+    out: &mut String,
+    filled: usize,
+    drawn: usize,
+    words: &[u16],
+) -> Result<(), AllocError>
     ensures { λ r. ⌜ made r (λ _. string-bytes (now (out .exit)) ≡ string-bytes (now (out .entry)) ++ ok-line filled drawn (now (words .entry))) ⌝ }
 {
     out.push_str("ok")?;

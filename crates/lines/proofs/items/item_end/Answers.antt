@@ -7,11 +7,11 @@ loop-i-holds c = scanned-none (c .args .line .now)
 
 pub returns-then-b-eq32 : need.returns-then-b-eq32
 returns-then-b-eq32 c = record
-  { within = omega arith; cut = scanned-space (c .args .line .now) (c .loop-i .i) (c .loop-i-test .taken) (c .if-b-eq32 .taken) (c .loop-i .inv) }
+    { within = omega arith; cut = scanned-space (c .args .line .now) (c .loop-i .i) (c .loop-i-test .taken) (c .if-b-eq32 .taken) (c .loop-i .inv) }
 
 pub loop-i-again : need.loop-i-again
 loop-i-again c = scanned-more (c .args .line .now) (c .loop-i .i) (c .loop-i-test .taken) (c .if-b-eq32 .left) (c .loop-i .inv)
 
 pub returns : need.returns
 returns c = record
-  { within = omega arith; cut = scanned-all (c .args .line .now) (c .loop-i .i) (c .loop-i .kept .i-end) (c .loop-i-test .left) (c .loop-i .inv) }
+    { within = omega arith; cut = scanned-all (c .args .line .now) (c .loop-i .i) (c .loop-i .kept .i-end) (c .loop-i-test .left) (c .loop-i .inv) }

@@ -3,7 +3,7 @@ use native.Mathlib.Omega.{arith}
 use lib.ListN.{length}
 use Rattle.std.specs.Of.Vec.{vec-items}
 use Rattle.lines.proofs.Gathered.{no-numbers, items-after-space}
-use Rattle.lines.proofs.reading.numbers_after.Needs as need
+use Rattle.lines.proofs.numbers.numbers_after.Needs as need
 
 pub returns-then-end-line : need.returns-then-end-line
 returns-then-end-line c = no-numbers (c .args .line .now) (vec-items (c .new .result)) (c .args .end) (c .new .ensures .items) (c .if-end-line .taken)

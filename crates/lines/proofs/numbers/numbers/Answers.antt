@@ -6,7 +6,7 @@ use Rattle.std.specs.Of.Vec.{vec-items}
 use Rattle.lines.specs.Items.{items}
 use Rattle.lines.specs.Numbers.{numbers-in}
 use Rattle.lines.proofs.Gathered.{turn-other, turn-last, turn-next}
-use Rattle.lines.proofs.reading.numbers.Needs as need
+use Rattle.lines.proofs.numbers.numbers.Needs as need
 
 pub returns-in-rest : need.returns-in-rest
 returns-in-rest c =
@@ -24,9 +24,9 @@ add-rest c = omega arith
 
 pub loop-n-again : need.loop-n-again
 loop-n-again c =
-    let h : c .item-end-end .result < length (c .loop-n .rest .now) = omega arith in
-    ( turn-next (numbers-in (items (c .args .text .now))) (vec-items (c .loop-n .found)) (c .loop-n .rest .now) (c .item-end-end .result)
-      (c .loop-n .inv .0) (c .item-end-end .ensures .cut) (c .in-Some .n) (vec-items (c .push .last .self)) (c .in-Some .ensures tt)
-      (c .in-Continue-push .ensures tt .items) h
-    , simp (length-take, length-drop) (omega arith)
+    let h : c .item-end-end .result < length (c .loop-n .rest .now) = omega arith in (
+      turn-next (numbers-in (items (c .args .text .now))) (vec-items (c .loop-n .found)) (c .loop-n .rest .now) (c .item-end-end .result)
+          (c .loop-n .inv .0) (c .item-end-end .ensures .cut) (c .in-Some .n) (vec-items (c .push .last .self)) (c .in-Some .ensures tt)
+          (c .in-Continue-push .ensures tt .items) h,
+      simp (length-take, length-drop) (omega arith),
     )

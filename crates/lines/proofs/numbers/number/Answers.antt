@@ -1,6 +1,6 @@
 use borrow.Author.Needs.{needs}
 use Rattle.lines.specs.Numbers.{number-in}
-use Rattle.lines.proofs.number.number.Needs as need
+use Rattle.lines.proofs.numbers.number.Needs as need
 
 pub returns-then-is-empty : need.returns-then-is-empty
 unfolding number-in

@@ -13,6 +13,10 @@ use crate::items::item_end;
 use std::alloc::AllocError;
 use std::alloc::Global;
 
+// How many digits a number may have, and its largest value.
+const MOST_DIGITS: usize = 5;
+const LARGEST: u32 = 65_535;
+
 // The value of at most five digits; none where a byte is no digit.
 fn value_of(item: &[u8]) -> Option<u32>
     requires { ⌜ length (now item) ≤ 5 ⌝ }
@@ -32,11 +36,11 @@ fn value_of(item: &[u8]) -> Option<u32>
 fn number(item: &[u8]) -> Option<u16>
     ensures { λ r. ⌜ r ≡ number-in (now (item .entry)) ⌝ }
 {
-    if item.is_empty() || item.len() > 5 {
+    if item.is_empty() || item.len() > MOST_DIGITS {
         return None;
     }
     let value = value_of(item)?;
-    if value > 65_535 {
+    if value > LARGEST {
         return None;
     }
     Some(value as u16)

@@ -10,9 +10,9 @@ pub returns-in-Break-value : need.returns-in-Break-value
 unfolding number-in
 returns-in-Break-value c = search needs
 
-pub returns-then-value-gt65535 : need.returns-then-value-gt65535
+pub returns-then-value-gt-LARGEST : need.returns-then-value-gt-LARGEST
 unfolding number-in
-returns-then-value-gt65535 c = search needs
+returns-then-value-gt-LARGEST c = search needs
 
 pub returns : need.returns
 unfolding number-in

@@ -18,9 +18,6 @@ use Rattle.lines.specs.Numbers.{number-in, numbers-in, with-first}
 abbrev pub Gathered : Option (List ℕ) → List ℕ → List (List ℕ) → Type 0
 Gathered all found left = all ≡ mapped (λ ns. found ++ ns) (numbers-in left)
 
-pub gathered-none : (left : List (List ℕ)) → Gathered (numbers-in left) [] left
-gathered-none left = elim (numbers-in left) as (λ o. o ≡ mapped (λ ns. [] ++ ns) o) [ None ↦ refl | Some ns ↦ refl ]
-
 gathered-other : (all : Option (List ℕ)) (found : List ℕ) (left : List (List ℕ)) (item : List ℕ) (more : List (List ℕ)) → Gathered all found left → left ≡ item ∷ more → None ≡ number-in item → None ≡ all
 unfolding numbers-in
 gathered-other all found left item more g cut e =
@@ -49,7 +46,7 @@ after line end = take (length line - (end + 1)) (drop (end + 1) line)
 pub items-after-space : (line : List ℕ) (end : ℕ) → end < length line → items-after end line ≡ items (after line end)
 items-after-space line end h = ap (λ t. cond t (items (drop (end + 1) line)) []) (lt-ltb end (length line) h) ∙ sym (ap items (take-rest line (end + 1)))
 
-pub items-after-all : (line : List ℕ) (end : ℕ) → length line ≤ end → items-after end line ≡ []
+items-after-all : (line : List ℕ) (end : ℕ) → length line ≤ end → items-after end line ≡ []
 items-after-all line end h = ap (λ t. cond t (items (drop (end + 1) line)) []) (le-ltb end (length line) h)
 
 pub no-numbers : (line found : List ℕ) (end : ℕ) → found ≡ [] → end ≡ length line → Some found ≡ numbers-in (items-after end line)

@@ -1,10 +1,7 @@
 -- Numbers that are printed one after another.
-use mathlib.Core.Bool.{cond}
 use mathlib.Core.List.{List, [], _∷_, _++_, append-assoc}
 use mathlib.Core.Path.{_≡_, refl, sym, ap, _∙_}
-use Prim.Native.Nat.{ℕ, suc, _+_, _^_, _<_, _≤_}
-use native.Mathlib.Numerals.{add-one}
-use native.Mathlib.Omega.{arith}
+use Prim.Native.Nat.{ℕ, _+_, _^_, _<_, _≤_}
 use borrow.Author.Needs.{needs}
 use lib.Chars.{codes}
 use lib.ListN.{length, getD, take}

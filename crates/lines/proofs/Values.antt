@@ -1,8 +1,8 @@
 -- Digits that are read from left to right.
-use mathlib.Core.Bool.{Bool, true, false, cond, _&&_}
-use mathlib.Core.List.{List, [], _∷_}
-use mathlib.Core.Path.{_≡_, refl, sym, ap, _∙_}
-use Prim.Native.Nat.{ℕ, suc, _+_, _-_, _*_, _^_, _<_, _≤_}
+use mathlib.Core.Bool.{true, false, _&&_}
+use mathlib.Core.List.{List}
+use mathlib.Core.Path.{_≡_, sym, ap, _∙_}
+use Prim.Native.Nat.{ℕ, _+_, _-_, _*_, _^_, _<_, _≤_}
 use native.Mathlib.Nat.{pow-suc}
 use native.Mathlib.Numerals.{add-one}
 use native.Mathlib.Omega.{arith}
@@ -10,20 +10,12 @@ use borrow.Author.Tests.{le-leb, lt-leb}
 use lib.Dec.{leb}
 use lib.ListN.{length, getD, drop}
 use Rattle.std.proofs.shelf.Lists.{drop-more, drop-all}
-use Rattle.std.specs.declared.option.Option.{Option}
 use Rattle.std.specs.declared.option.Option.the-variants.{Some, None}
-use Rattle.lines.specs.Numbers.{all-digits, value-after, digits-value}
+use Rattle.lines.specs.Numbers.{all-digits, value-after, digits-value, worth}
 
 -- the bytes before a place are digits, and this is what they are worth
 abbrev pub Valued : List ℕ → ℕ → ℕ → Type 0
 Valued item i value = (all-digits (drop i item) ≡ all-digits item) × (value-after value (drop i item) ≡ value-after 0 item) × (value < 10 ^ i)
-
--- what the digits of an item are worth, if it has only digits
-abbrev pub worth : List ℕ → Option ℕ
-worth item = cond (all-digits item) (Some (digits-value item)) None
-
-pub valued-none : (item : List ℕ) → Valued item 0 0
-valued-none item = (refl, refl, omega arith)
 
 pub valued-more : (item : List ℕ) (i value d : ℕ) → i < length item → 48 ≤ getD item i 0 → getD item i 0 ≤ 57 → d ≡ getD item i 0 - 48 → Valued item i value → Valued item (i + 1) (value * 10 + d)
 valued-more item i value d h low high is v =

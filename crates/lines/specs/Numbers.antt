@@ -22,6 +22,10 @@ value-after n (b ∷ bs) = value-after (n * 10 + (b - 48)) bs
 abbrev pub digits-value : List ℕ → ℕ
 digits-value bytes = value-after 0 bytes
 
+-- what the digits of an item are worth; none where a byte is no digit
+abbrev pub worth : List ℕ → Option ℕ
+worth item = cond (all-digits item) (Some (digits-value item)) None
+
 -- the number that an item is: one to five digits, at most 65,535
 unfoldable pub number-in : List ℕ → Option ℕ
 number-in item = cond (leb 1 (length item) && leb (length item) 5 && all-digits item && leb (digits-value item) 65535) (Some (digits-value item)) None

@@ -1,26 +1,25 @@
 // The numbers of a line.
 ghost use Prim.Native.Nat.{_≤_};
 ghost use lib.ListN.{length};
-ghost use mathlib.Core.Bool.{cond};
 ghost use mathlib.Core.Path.{_≡_};
-ghost use Rattle.std.specs.declared.option.Option.the-variants.{Some, None};
 ghost use Rattle.std.specs.Of.Vec.{vec-items};
 ghost use Rattle.std.specs.Options.{mapped};
 ghost use Rattle.std.specs.Vec.{made};
 ghost use Rattle.lines.specs.Items.{items, items-after};
-ghost use Rattle.lines.specs.Numbers.{all-digits, digits-value, number-in, numbers-in};
+ghost use Rattle.lines.specs.Numbers.{number-in, numbers-in, worth};
 use crate::items::item_end;
 use std::alloc::AllocError;
 use std::alloc::Global;
 
 // How many digits a number may have, and its largest value.
 const MOST_DIGITS: usize = 5;
+
 const LARGEST: u32 = 65_535;
 
 // The value of at most five digits; none where a byte is no digit.
 fn value_of(item: &[u8]) -> Option<u32>
     requires { ⌜ length (now item) ≤ 5 ⌝ }
-    ensures { λ r. ⌜ r ≡ cond (all-digits (now (item .entry))) (Some (digits-value (now (item .entry)))) None ⌝ }
+    ensures { λ r. ⌜ r ≡ worth (now (item .entry)) ⌝ }
 {
     let mut value = 0u32;
     for b in item {

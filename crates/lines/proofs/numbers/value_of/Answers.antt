@@ -1,8 +1,4 @@
-use mathlib.Core.Path.{subst}
-use Prim.Native.Nat.{ℕ, _+_, _*_}
-use native.Mathlib.Omega.{arith}
-use borrow.Author.Needs.{needs}
-use Rattle.lines.proofs.Values.{Valued, valued-more, valued-below, valued-above, valued-all}
+use Rattle.lines.proofs.Values.{valued-more, valued-below, valued-above, valued-all}
 use Rattle.lines.proofs.numbers.value_of.Needs as need
 use Rattle.lines.proofs.numbers.value_of.Needs.{then-b-lt48·by·then-b-lt48, then-b-lt48·by·else-b-lt48·then-b-gt57}
 

@@ -1,0 +1,4 @@
+pub mod Items
+pub mod Numbers
+pub mod Requests
+pub mod Printed

@@ -16,3 +16,5 @@ pub mod Codes
 pub mod Solutions
 pub mod PlaneSolution
 pub mod Writes
+pub mod Scored
+pub mod Coupling

@@ -2,6 +2,10 @@
 ghost use mathlib.Core.Path.{_≡_};
 ghost use Prim.Native.Nat.{_*_, _^_, _<_, _≤_};
 ghost use lib.ListN.{length};
+ghost use Rattle.code.specs.Reading.{symbols};
+ghost use Rattle.code.specs.Steps.{ScoreSolved, Sound};
+ghost use Rattle.shape.specs.Listing.{outages};
+ghost use Rattle.shape.specs.Outages.{among};
 use crate::checking::all_codes;
 use crate::checking::planes_hold;
 use crate::planes::score;
@@ -39,6 +43,8 @@ fn clear(shape: Shape, out: &OutageList, words: &mut [u16])
 fn solve_score<F: Field>(shape: Shape, out: &OutageList, words: &mut [u16], level: usize)
     requires room { ⌜ shape .q * shape .t * shape .q ^ shape .t ≤ length (now words) ⌝ }
     requires count { ⌜ now out .count ≡ shape .q * shape .t ⌝ }
+    ensures solved { λ _. ⌜ ScoreSolved (F·Field .arith) (shape .q) (shape .t) (among (outages (now (out .entry)))) level (shape .q ^ shape .t) (symbols (F·Field .arith) (shape .q ^ shape .t) (now (words .entry))) (symbols (F·Field .arith) (shape .q ^ shape .t) (now (words .exit))) ⌝ }
+    ensures sound { λ _. ⌜ Sound (F·Field .arith) (shape .q * shape .t * shape .q ^ shape .t) (now (words .entry)) (now (words .exit)) ⌝ }
 {
     for place in 0..shape.places() {
         if score(shape, out, place) == level {

@@ -18,3 +18,4 @@ pub mod PlaneSolution
 pub mod Writes
 pub mod Scored
 pub mod Coupling
+pub mod Filled

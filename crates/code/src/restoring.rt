@@ -2,8 +2,10 @@
 ghost use mathlib.Core.Path.{_≡_};
 ghost use Prim.Native.Nat.{_*_, _^_, _<_, _≤_};
 ghost use lib.ListN.{length};
+ghost use Rattle.code.specs.Code.{Checks};
 ghost use Rattle.code.specs.Reading.{symbols};
 ghost use Rattle.code.specs.Steps.{ScoreSolved, Sound};
+ghost use Rattle.code.specs.Theorems.{Agree};
 ghost use Rattle.shape.specs.Listing.{outages};
 ghost use Rattle.shape.specs.Outages.{among};
 use crate::checking::all_codes;
@@ -57,6 +59,9 @@ fn solve_score<F: Field>(shape: Shape, out: &OutageList, words: &mut [u16], leve
 fn fill<F: Field>(shape: Shape, out: &OutageList, words: &mut [u16])
     requires room { ⌜ shape .q * shape .t * shape .q ^ shape .t ≤ length (now words) ⌝ }
     requires count { ⌜ now out .count ≡ shape .q * shape .t ⌝ }
+    ensures checks { λ _. ⌜ Checks (F·Field .arith) (shape .q) (shape .t) (length (outages (now (out .entry)))) (symbols (F·Field .arith) (shape .q ^ shape .t) (now (words .exit))) ⌝ }
+    ensures kept { λ _. ⌜ Agree (F·Field .arith) (shape .q) (shape .t) (among (outages (now (out .entry)))) (symbols (F·Field .arith) (shape .q ^ shape .t) (now (words .exit))) (symbols (F·Field .arith) (shape .q ^ shape .t) (now (words .entry))) ⌝ }
+    ensures sound { λ _. ⌜ Sound (F·Field .arith) (shape .q * shape .t * shape .q ^ shape .t) (now (words .entry)) (now (words .exit)) ⌝ }
 {
     for level in 0..shape.columns() + 1 {
         solve_score::<F>(shape, out, words, level);

@@ -19,3 +19,5 @@ pub mod Writes
 pub mod Scored
 pub mod Coupling
 pub mod Filled
+pub mod Clearing
+pub mod Restoration

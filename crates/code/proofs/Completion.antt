@@ -108,15 +108,15 @@ module _ {E : Type 0} (f : Arith E) (laws : Laws f) (q t : ℕ) (pos : 0 < q) (S
           ∙ done p e lp le (omega arith)
 
   module _ (A b : ℕ → ℕ → E) (i p : ℕ) where
-    turn-own : Row-is-digit i p → turn f q S A b i p ≡ b i p
+    pub turn-own : Row-is-digit i p → turn f q S A b i p ≡ b i p
     unfolding turn
     turn-own o = cond-true (eqb (row q i) (digit q p (column q i))) _ _ (eq-eqb (row q i) (digit q p (column q i)) o)
 
-    turn-both : (Row-is-digit i p → ⊥) → S (companion-node q i p) ≡ true → turn f q S A b i p ≡ of-pair f (b i p) (b (companion-node q i p) (companion-place q i p))
+    pub turn-both : (Row-is-digit i p → ⊥) → S (companion-node q i p) ≡ true → turn f q S A b i p ≡ of-pair f (b i p) (b (companion-node q i p) (companion-place q i p))
     unfolding turn
     turn-both o k = cond-false (eqb (row q i) (digit q p (column q i))) _ _ (ne-eqb (row q i) (digit q p (column q i)) o) ∙ cond-true (S (companion-node q i p)) _ _ k
 
-    turn-one : (Row-is-digit i p → ⊥) → S (companion-node q i p) ≡ false → turn f q S A b i p ≡ minus f (b i p) (u ⊗ A (companion-node q i p) (companion-place q i p))
+    pub turn-one : (Row-is-digit i p → ⊥) → S (companion-node q i p) ≡ false → turn f q S A b i p ≡ minus f (b i p) (u ⊗ A (companion-node q i p) (companion-place q i p))
     unfolding turn
     turn-one o k = cond-false (eqb (row q i) (digit q p (column q i))) _ _ (ne-eqb (row q i) (digit q p (column q i)) o) ∙ cond-false (S (companion-node q i p)) _ _ k
 

@@ -16,3 +16,8 @@ pub mod Codes
 pub mod Solutions
 pub mod PlaneSolution
 pub mod Writes
+pub mod Scored
+pub mod Coupling
+pub mod Filled
+pub mod Clearing
+pub mod Restoration

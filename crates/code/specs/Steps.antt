@@ -9,9 +9,19 @@ use lib.ListN.{getD}
 use Rattle.field.specs.Field.{Arith}
 use Rattle.shape.specs.Layout.{row, column, digit, companion-node, companion-place}
 use Rattle.code.specs.Calls.{Rest}
-use Rattle.code.specs.Code.{minus, moment}
+use Rattle.code.specs.Code.{Words, minus, moment}
 use Rattle.code.specs.Filling.{score, known, solution, of-pair, turn}
 use Rattle.code.specs.Solving.{Codes, reads}
+
+-- the words of one node are 0, up to a place
+pub record NodeCleared (places node below : ℕ) (w w′ : Words) : Type 0 where
+  pub none : (p : ℕ) → p < places → p < below → w′ node p ≡ 0
+  pub kept : (i p : ℕ) → p < places → (i ≢ node) ⊎ (below ≤ p) → w′ i p ≡ w i p
+
+-- so are those of the erased nodes, up to a node
+pub record Cleared (places : ℕ) (erased : ℕ → Bool) (below : ℕ) (w w′ : Words) : Type 0 where
+  pub none : (i p : ℕ) → p < places → erased i ≡ true → i < below → w′ i p ≡ 0
+  pub kept : (i p : ℕ) → p < places → (erased i ≡ false) ⊎ (below ≤ i) → w′ i p ≡ w i p
 
 -- one symbol is written
 pub record Wrote {E : Type 0} (places node place : ℕ) (a : E) (A A′ : ℕ → ℕ → E) : Type 0 where

@@ -2,6 +2,13 @@
 ghost use mathlib.Core.Path.{_≡_};
 ghost use Prim.Native.Nat.{_*_, _^_, _<_, _≤_};
 ghost use lib.ListN.{length};
+ghost use Rattle.code.specs.Calls.{Rest, Restored};
+ghost use Rattle.code.specs.Code.{Checks, laid};
+ghost use Rattle.code.specs.Reading.{symbols};
+ghost use Rattle.code.specs.Steps.{Cleared, NodeCleared, ScoreSolved, Sound};
+ghost use Rattle.code.specs.Theorems.{Agree};
+ghost use Rattle.shape.specs.Listing.{outages};
+ghost use Rattle.shape.specs.Outages.{among};
 use crate::checking::all_codes;
 use crate::checking::planes_hold;
 use crate::planes::score;
@@ -17,6 +24,8 @@ use shape::Shape;
 fn clear_node(shape: Shape, words: &mut [u16], node: usize)
     requires node { ⌜ node < shape .q * shape .t ⌝ }
     requires room { ⌜ shape .q * shape .t * shape .q ^ shape .t ≤ length (now words) ⌝ }
+    ensures cleared { λ _. ⌜ NodeCleared (shape .q ^ shape .t) node (shape .q ^ shape .t) (laid (shape .q ^ shape .t) (now (words .entry))) (laid (shape .q ^ shape .t) (now (words .exit))) ⌝ }
+    ensures rest { λ _. ⌜ Rest (shape .q * shape .t * shape .q ^ shape .t) (now (words .entry)) (now (words .exit)) ⌝ }
 {
     for place in 0..shape.places() {
         let at = spot(shape, node, place);
@@ -27,6 +36,8 @@ fn clear_node(shape: Shape, words: &mut [u16], node: usize)
 // Sets the words of the listed nodes to 0.
 fn clear(shape: Shape, out: &OutageList, words: &mut [u16])
     requires { ⌜ shape .q * shape .t * shape .q ^ shape .t ≤ length (now words) ⌝ }
+    ensures cleared { λ _. ⌜ Cleared (shape .q ^ shape .t) (among (outages (now (out .entry)))) (shape .q * shape .t) (laid (shape .q ^ shape .t) (now (words .entry))) (laid (shape .q ^ shape .t) (now (words .exit))) ⌝ }
+    ensures rest { λ _. ⌜ Rest (shape .q * shape .t * shape .q ^ shape .t) (now (words .entry)) (now (words .exit)) ⌝ }
 {
     for node in 0..shape.nodes() {
         if out.contains(node) {
@@ -39,6 +50,8 @@ fn clear(shape: Shape, out: &OutageList, words: &mut [u16])
 fn solve_score<F: Field>(shape: Shape, out: &OutageList, words: &mut [u16], level: usize)
     requires room { ⌜ shape .q * shape .t * shape .q ^ shape .t ≤ length (now words) ⌝ }
     requires count { ⌜ now out .count ≡ shape .q * shape .t ⌝ }
+    ensures solved { λ _. ⌜ ScoreSolved (F·Field .arith) (shape .q) (shape .t) (among (outages (now (out .entry)))) level (shape .q ^ shape .t) (symbols (F·Field .arith) (shape .q ^ shape .t) (now (words .entry))) (symbols (F·Field .arith) (shape .q ^ shape .t) (now (words .exit))) ⌝ }
+    ensures sound { λ _. ⌜ Sound (F·Field .arith) (shape .q * shape .t * shape .q ^ shape .t) (now (words .entry)) (now (words .exit)) ⌝ }
 {
     for place in 0..shape.places() {
         if score(shape, out, place) == level {
@@ -51,6 +64,9 @@ fn solve_score<F: Field>(shape: Shape, out: &OutageList, words: &mut [u16], leve
 fn fill<F: Field>(shape: Shape, out: &OutageList, words: &mut [u16])
     requires room { ⌜ shape .q * shape .t * shape .q ^ shape .t ≤ length (now words) ⌝ }
     requires count { ⌜ now out .count ≡ shape .q * shape .t ⌝ }
+    ensures checks { λ _. ⌜ Checks (F·Field .arith) (shape .q) (shape .t) (length (outages (now (out .entry)))) (symbols (F·Field .arith) (shape .q ^ shape .t) (now (words .exit))) ⌝ }
+    ensures kept { λ _. ⌜ Agree (F·Field .arith) (shape .q) (shape .t) (among (outages (now (out .entry)))) (symbols (F·Field .arith) (shape .q ^ shape .t) (now (words .exit))) (symbols (F·Field .arith) (shape .q ^ shape .t) (now (words .entry))) ⌝ }
+    ensures sound { λ _. ⌜ Sound (F·Field .arith) (shape .q * shape .t * shape .q ^ shape .t) (now (words .entry)) (now (words .exit)) ⌝ }
 {
     for level in 0..shape.columns() + 1 {
         solve_score::<F>(shape, out, words, level);
@@ -59,7 +75,9 @@ fn fill<F: Field>(shape: Shape, out: &OutageList, words: &mut [u16])
 }
 
 // Makes the first words the only codeword that agrees with the nodes that are not listed, at most q being listed.
-pub fn restore<F: Field>(shape: Shape, out: &OutageList, words: &mut [u16]) -> Result<(), Refusal> {
+pub fn restore<F: Field>(shape: Shape, out: &OutageList, words: &mut [u16]) -> Result<(), Refusal>
+    ensures { λ r. ⌜ Restored (F·Field .arith) (shape .q) (shape .t) (now (out .entry) .count) (outages (now (out .entry))) (now (words .entry)) r (now (words .exit)) ⌝ }
+{
     let used = shape.words();
     if words.len() < used {
         return Err(Refusal::WorkSpace);

@@ -2,6 +2,11 @@
 ghost use mathlib.Core.Path.{_≡_};
 ghost use Prim.Native.Nat.{_*_, _^_, _<_, _≤_};
 ghost use lib.ListN.{length};
+ghost use Rattle.code.specs.Filling.{of-pair};
+ghost use Rattle.code.specs.Reading.{symbols};
+ghost use Rattle.code.specs.Steps.{NodeTurned, ScoreTurned, Sound, turn-now};
+ghost use Rattle.shape.specs.Listing.{outages};
+ghost use Rattle.shape.specs.Outages.{among};
 use crate::arithmetic::difference;
 use crate::planes::score;
 use crate::symbols::symbol;
@@ -11,7 +16,9 @@ use shape::OutageList;
 use shape::Shape;
 
 // The first symbol of a pair, from the uncoupled symbols of both.
-fn of_pair<F: Field>(a: F::Element, b: F::Element) -> F::Element {
+fn of_pair<F: Field>(a: F::Element, b: F::Element) -> F::Element
+    ensures { λ r. ⌜ r ≡ of-pair (F·Field .arith) a b ⌝ }
+{
     let u = F::coupling_element();
     let by = F::inverse(difference::<F>(F::one(), F::product(u, u)));
     F::product(by, difference::<F>(a, F::product(u, b)))
@@ -28,6 +35,7 @@ fn turned<F: Field>(
     requires node { ⌜ node < shape .q * shape .t ⌝ }
     requires place { ⌜ place < shape .q ^ shape .t ⌝ }
     requires room { ⌜ shape .q * shape .t * shape .q ^ shape .t ≤ length (now words) ⌝ }
+    ensures { λ r. ⌜ r ≡ turn-now (F·Field .arith) (shape .q) (shape .t) (among (outages (now (out .entry)))) (symbols (F·Field .arith) (shape .q ^ shape .t) (now (words .entry))) node place ⌝ }
 {
     let own = symbol::<F>(shape, words, node, place);
     if shape.row(node) == shape.digit(place, shape.column(node)) {
@@ -50,6 +58,8 @@ fn turned<F: Field>(
 fn turn_node<F: Field>(shape: Shape, out: &OutageList, words: &mut [u16], node: usize, level: usize)
     requires node { ⌜ node < shape .q * shape .t ⌝ }
     requires room { ⌜ shape .q * shape .t * shape .q ^ shape .t ≤ length (now words) ⌝ }
+    ensures turned { λ _. ⌜ NodeTurned (F·Field .arith) (shape .q) (shape .t) (among (outages (now (out .entry)))) level node (shape .q ^ shape .t) (symbols (F·Field .arith) (shape .q ^ shape .t) (now (words .entry))) (symbols (F·Field .arith) (shape .q ^ shape .t) (now (words .exit))) ⌝ }
+    ensures sound { λ _. ⌜ Sound (F·Field .arith) (shape .q * shape .t * shape .q ^ shape .t) (now (words .entry)) (now (words .exit)) ⌝ }
 {
     for place in 0..shape.places() {
         if score(shape, out, place) == level {
@@ -62,6 +72,8 @@ fn turn_node<F: Field>(shape: Shape, out: &OutageList, words: &mut [u16], node: 
 // Turns the symbols of the listed nodes in the planes of a score.
 pub(crate) fn turn_score<F: Field>(shape: Shape, out: &OutageList, words: &mut [u16], level: usize)
     requires { ⌜ shape .q * shape .t * shape .q ^ shape .t ≤ length (now words) ⌝ }
+    ensures turned { λ _. ⌜ ScoreTurned (F·Field .arith) (shape .q) (shape .t) (among (outages (now (out .entry)))) level (shape .q * shape .t) (symbols (F·Field .arith) (shape .q ^ shape .t) (now (words .entry))) (symbols (F·Field .arith) (shape .q ^ shape .t) (now (words .exit))) ⌝ }
+    ensures sound { λ _. ⌜ Sound (F·Field .arith) (shape .q * shape .t * shape .q ^ shape .t) (now (words .entry)) (now (words .exit)) ⌝ }
 {
     for node in 0..shape.nodes() {
         if out.contains(node) {

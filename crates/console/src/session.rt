@@ -1,14 +1,15 @@
 // A vault on a table rack, driven by lines.
-use crate::command::Command;
-use crate::command::Kind;
-use crate::parse::parse;
-use crate::reply::print_answer;
-use crate::reply::print_bad;
 use field::ByteField;
 use field::ByteFieldField;
 use field::Field;
 use field::PrimeField;
 use field::PrimeFieldField;
+use lines::Command;
+use lines::Kind;
+use lines::parse;
+use lines::print_bad;
+use lines::print_no;
+use lines::print_ok;
 use rack::TableError;
 use rack::TableRack;
 use rack::TableRackRack;
@@ -18,6 +19,18 @@ use std::alloc::AllocError;
 use std::alloc::Global;
 use vault::Answer;
 use vault::Vault;
+
+// What a call answered; after a read, the words.
+fn print_answer(
+    out: &mut String,
+    answer: Result<Answer, Refusal>,
+    words: &[u16],
+) -> Result<(), AllocError> {
+    match answer {
+        Ok(a) => print_ok(out, a.filled, a.drawn, words),
+        Err(why) => print_no(out, why),
+    }
+}
 
 // An open vault with its work space.
 #[derive(Drop)]
@@ -78,12 +91,7 @@ impl<F: Field + Drop> Opened<F> {
     }
 
     // Makes a call and prints what it answers. No second vault is opened.
-    fn call(
-        &mut self,
-        heap: Global,
-        command: Command,
-        out: &mut String,
-    ) -> Result<(), AllocError> {
+    fn call(&mut self, heap: Global, command: Command, out: &mut String) -> Result<(), AllocError> {
         let space = self.space.as_mut_slice();
         let answer = match command {
             Command::Open(_, _, _) => return print_bad(out),

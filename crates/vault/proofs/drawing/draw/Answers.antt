@@ -23,17 +23,17 @@ loop-i-again g c =
     let within : i < m0 .nodes = omega (arith, size .0, c .nodes-i-end .ensures, c .loop-i-test .taken) in
     let flag = flag-drawn m0 m i k i (c .stands .result) (inv .0) within (c .stands .ensures) in
     elim (c .if-stands .came) [
-      then-stands·in-Continue-draw-node w ↦
-        let up = flag ∙ w .if-stands .taken in (
-          ap model (w .rack-is) ∙ drawn-below-more m0 m i k (inv .0) up (model (w .draw-node .last .rack)) (w .draw-node .ensures .after),
-          nodes-more P (m0 .flags) test (m0 .words) (c .args .space .now) i (c .loop-i .space) (inv .1) up (m .words) (λ p. ap (λ x. x .words i p) (inv .0)) (c .if-stands .space)
-          (λ j p lp. ap (λ s. laid P s j p) (w .space-is) ∙ w .draw-node .ensures .space j p lp),
-          subst (λ r. g .R·Rack .kept (c .args .rack .now) r) (sym (w .rack-is)) (g .R·Rack .keeping .joined _ _ _ (inv .2) (w .draw-node .ensures .stays)),
-        )
-    | else-stands w ↦
-        let out = flag ∙ w .if-stands .left in (
-          ap model (w .rack-is) ∙ drawn-below-skip m0 m i k (inv .0) out,
-          nodes-skip P (m0 .flags) test (m0 .words) (c .args .space .now) i (c .loop-i .space) (inv .1) out (c .if-stands .space) (w .space-is),
-          subst (λ r. g .R·Rack .kept (c .args .rack .now) r) (sym (w .rack-is)) (inv .2),
-        )
+      | then-stands·in-Continue-draw-node w ↦
+          let up = flag ∙ w .if-stands .taken in (
+            ap model (w .rack-is) ∙ drawn-below-more m0 m i k (inv .0) up (model (w .draw-node .last .rack)) (w .draw-node .ensures .after),
+            nodes-more P (m0 .flags) test (m0 .words) (c .args .space .now) i (c .loop-i .space) (inv .1) up (m .words) (λ p. ap (λ x. x .words i p) (inv .0)) (c .if-stands .space)
+                (λ j p lp. ap (λ s. laid P s j p) (w .space-is) ∙ w .draw-node .ensures .space j p lp),
+            subst (λ r. g .R·Rack .kept (c .args .rack .now) r) (sym (w .rack-is)) (g .R·Rack .keeping .joined _ _ _ (inv .2) (w .draw-node .ensures .stays)),
+          )
+      | else-stands w ↦
+          let out = flag ∙ w .if-stands .left in (
+            ap model (w .rack-is) ∙ drawn-below-skip m0 m i k (inv .0) out,
+            nodes-skip P (m0 .flags) test (m0 .words) (c .args .space .now) i (c .loop-i .space) (inv .1) out (c .if-stands .space) (w .space-is),
+            subst (λ r. g .R·Rack .kept (c .args .rack .now) r) (sym (w .rack-is)) (inv .2),
+          )
     ]

@@ -42,20 +42,20 @@ loop-p-again g c =
     let inv = c .loop-p .inv in
     let gathered = inv .1 in
     elim (c .if-selected .came) [
-      then-selected·in-Continue-word w ↦
-        let on = sym (c .selected .ensures) ∙ w .if-selected .taken in
-        let word = sym (w .in-Continue-word .was tt) ∙ w .get .ensures .answer in
-        let room = spot-room n P i p (length (c .loop-p .space)) (c .pre .node) (c .loop-p-test .taken)
-        (omega (arith, ap (λ x. n * x) (c .places-places .ensures), c .pre .room, c .loop-p .kept .space)) in (
-          ap model (w .rack-is) ∙ drawn-step m0 (model (c .loop-p .rack)) i p test (inv .0) (w .in-Continue-word .word) word _ on (w .get .ensures .after),
-          gathered-more P test (m0 .words) (c .args .space .now) i (c .loop-p .space) p gathered (w .in-Continue-word .word) (c .loop-p-test .taken) room on
-          (got-word m0 (model (c .loop-p .rack)) i p test (inv .0) (w .in-Continue-word .word) word) (c .if-selected .space) (w .space-is),
-          subst (λ r. g .R·Rack .kept (c .args .rack .now) r) (sym (w .rack-is)) (g .R·Rack .keeping .joined _ _ _ (inv .2) (w .get .ensures .stays)),
-        )
-    | else-selected w ↦
-        let off = sym (c .selected .ensures) ∙ w .if-selected .left in (
-          ap model (w .rack-is) ∙ drawn-skip m0 (model (c .loop-p .rack)) i p test (inv .0) off,
-          gathered-skip P test (m0 .words) (c .args .space .now) i (c .loop-p .space) p gathered off (c .if-selected .space) (w .space-is),
-          subst (λ r. g .R·Rack .kept (c .args .rack .now) r) (sym (w .rack-is)) (inv .2),
-        )
+      | then-selected·in-Continue-word w ↦
+          let on = sym (c .selected .ensures) ∙ w .if-selected .taken in
+          let word = sym (w .in-Continue-word .was tt) ∙ w .get .ensures .answer in
+          let room = spot-room n P i p (length (c .loop-p .space)) (c .pre .node) (c .loop-p-test .taken)
+          (omega (arith, ap (λ x. n * x) (c .places-places .ensures), c .pre .room, c .loop-p .kept .space)) in (
+            ap model (w .rack-is) ∙ drawn-step m0 (model (c .loop-p .rack)) i p test (inv .0) (w .in-Continue-word .word) word _ on (w .get .ensures .after),
+            gathered-more P test (m0 .words) (c .args .space .now) i (c .loop-p .space) p gathered (w .in-Continue-word .word) (c .loop-p-test .taken) room on
+                (got-word m0 (model (c .loop-p .rack)) i p test (inv .0) (w .in-Continue-word .word) word) (c .if-selected .space) (w .space-is),
+            subst (λ r. g .R·Rack .kept (c .args .rack .now) r) (sym (w .rack-is)) (g .R·Rack .keeping .joined _ _ _ (inv .2) (w .get .ensures .stays)),
+          )
+      | else-selected w ↦
+          let off = sym (c .selected .ensures) ∙ w .if-selected .left in (
+            ap model (w .rack-is) ∙ drawn-skip m0 (model (c .loop-p .rack)) i p test (inv .0) off,
+            gathered-skip P test (m0 .words) (c .args .space .now) i (c .loop-p .space) p gathered off (c .if-selected .space) (w .space-is),
+            subst (λ r. g .R·Rack .kept (c .args .rack .now) r) (sym (w .rack-is)) (inv .2),
+          )
     ]

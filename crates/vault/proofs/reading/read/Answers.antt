@@ -32,8 +32,8 @@ read-words-requires g c κs =
       sized = c .in-Continue-fits .ensures tt;
       inside = inside;
       stand =
-        sym (stand-flags q t (c .args .start) len (g .R·Rack .model (c .args .rack .now)) (c .in-Continue-fits .ensures tt) inside (places-positive (shaped (c .args .shape))))
-        ∙ sym (c .all-stand .ensures) ∙ c .if-not-all-stand .left;
+          sym (stand-flags q t (c .args .start) len (g .R·Rack .model (c .args .rack .now)) (c .in-Continue-fits .ensures tt) inside (places-positive (shaped (c .args .shape))))
+          ∙ sym (c .all-stand .ensures) ∙ c .if-not-all-stand .left;
     }
 
 pub returns : need.returns

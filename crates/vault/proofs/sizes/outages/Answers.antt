@@ -18,12 +18,12 @@ loop-i-again g c =
     let i = c .loop-i .i in
     let within : i < c .loop-i .out .count = omega (arith, c .loop-i .inv .0, c .none-out .ensures .count, c .nodes-i-end .ensures, c .loop-i-test .taken) in
     elim (c .if-not-stands .came) [
-      then-not-stands w ↦ (
+      | then-not-stands w ↦ (
         ap (λ o. o .count) (w .out-is) ∙ w .push .ensures .count ∙ c .loop-i .inv .0,
         ap outages (w .out-is) ∙ push-listed (λ j. not (standing m j)) (c .loop-i .out .count) i (outages (c .loop-i .out)) (outages (w .push .last .self)) (w .push .result) within
-        (ap not (sym (c .stands .ensures) ∙ w .if-not-stands .taken)) (c .loop-i .inv .1) (w .push .ensures .list),
+            (ap not (sym (c .stands .ensures) ∙ w .if-not-stands .taken)) (c .loop-i .inv .1) (w .push .ensures .list),
       )
-    | else-not-stands w ↦ (
+      | else-not-stands w ↦ (
         ap (λ o. o .count) (w .out-is) ∙ c .loop-i .inv .0,
         ap outages (w .out-is) ∙ c .loop-i .inv .1 ∙ sym (listed-skip (λ j. not (standing m j)) i (ap not (sym (c .stands .ensures) ∙ w .if-not-stands .left))),
       )

@@ -16,11 +16,11 @@ loop-i-again g c =
     let w = laid (c .args .shape .q ^ c .args .shape .t) (c .args .space .now) in
     let test = among (outages (c .args .list .now)) in
     elim (c .if-contains .came) [
-      then-contains·in-Continue-write-node x ↦ (
+      | then-contains·in-Continue-write-node x ↦ (
         ap model (x .rack-is) ∙ written-more m0 m test w i (c .loop-i .inv .0) (sym (c .contains .ensures) ∙ x .if-contains .taken) (model (x .write-node .last .rack)) (x .write-node .ensures .after),
         subst (λ r. g .R·Rack .kept (c .args .rack .now) r) (sym (x .rack-is)) (g .R·Rack .keeping .joined (c .args .rack .now) (c .loop-i .rack) (x .write-node .last .rack) (c .loop-i .inv .1) (x .write-node .ensures .stays)),
       )
-    | else-contains x ↦ (
+      | else-contains x ↦ (
         ap model (x .rack-is) ∙ written-skip m0 m test w i (c .loop-i .inv .0) (sym (c .contains .ensures) ∙ x .if-contains .left),
         subst (λ r. g .R·Rack .kept (c .args .rack .now) r) (sym (x .rack-is)) (c .loop-i .inv .1),
       )

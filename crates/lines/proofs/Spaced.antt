@@ -48,7 +48,7 @@ pub printed-all : (before now xs : List ℕ) (i : ℕ) → length xs ≤ i → P
 printed-all before now xs i h p = p ∙ ap (λ l. before ++ spaced l) (take-all i xs h)
 
 -- the parts of an answer, one after another
-pub ok-parts : (before words : List ℕ) (filled drawn : ℕ) → ((((before ++ codes "ok") ++ spaced (filled ∷ [])) ++ spaced (drawn ∷ [])) ++ spaced words) ++ (10 ∷ []) ≡ before ++ ok-line filled drawn words
-ok-parts before words filled drawn =
+pub ok-parts : (words : List ℕ) (filled drawn : ℕ) → (((codes "ok" ++ spaced (filled ∷ [])) ++ spaced (drawn ∷ [])) ++ spaced words) ++ (10 ∷ []) ≡ ok-line filled drawn words
+ok-parts words filled drawn =
     let e = spaced-append (filled ∷ []) (drawn ∷ words) ∙ ap (λ l. spaced (filled ∷ []) ++ l) (spaced-append (drawn ∷ []) words) in
-    simp append-assoc (ap (λ l. before ++ (codes "ok" ++ l)) (sym (ap (λ l. l ++ 10 ∷ []) e ∙ simp append-assoc)))
+    simp append-assoc (ap (λ l. codes "ok" ++ l) (sym (ap (λ l. l ++ 10 ∷ []) e ∙ simp append-assoc)))

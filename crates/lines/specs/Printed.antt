@@ -1,5 +1,5 @@
 -- What is printed as the answer to a line. Assumes nothing.
-use mathlib.Core.Bool.{cond}
+use mathlib.Core.Bool.{Bool, cond}
 use mathlib.Core.List.{List, [], _∷_, _++_}
 use Prim.Native.Nat.{ℕ, zero, suc, _+_, _/_, _%_}
 use lib.Chars.{codes}
@@ -30,3 +30,7 @@ no-line n = codes "no" ++ (spaced (n ∷ []) ++ 10 ∷ [])
 -- the answer to a call that was accepted; after a read, with the words
 abbrev pub ok-line : ℕ → ℕ → List ℕ → List ℕ
 ok-line filled drawn words = codes "ok" ++ (spaced (filled ∷ drawn ∷ words) ++ 10 ∷ [])
+
+-- what has been printed after one more line; nothing is added where memory is wanting
+abbrev pub printed : Bool → List ℕ → List ℕ → List ℕ
+printed done before line = cond done (before ++ line) before

@@ -3,15 +3,19 @@ use mathlib.Core.Path.{_≡_}
 use mathlib.Core.Logic.{_≢_, _⊎_}
 use mathlib.Core.Bool.{Bool, true, false, cond}
 use mathlib.Core.List.{List}
-use Prim.Native.Nat.{ℕ, _*_, _^_, _<_, _≤_}
+use Prim.Native.Nat.{ℕ, _+_, _*_, _^_, _<_, _≤_}
 use lib.Dec.{eqb, ltb}
-use lib.ListN.{getD}
+use lib.ListN.{length, getD}
 use Rattle.field.specs.Field.{Arith}
 use Rattle.shape.specs.Layout.{row, column, digit, companion-node, companion-place}
 use Rattle.code.specs.Calls.{Rest}
 use Rattle.code.specs.Code.{Words, minus, moment}
 use Rattle.code.specs.Filling.{score, known, solution, of-pair, turn}
 use Rattle.code.specs.Solving.{Codes, reads}
+
+-- a list of n numbers that follow each other
+abbrev pub Run : (first : ℕ) (nodes : List ℕ) (n : ℕ) → Type 0
+Run first nodes n = (length nodes ≡ n) × ((k : ℕ) → k < n → getD nodes k 0 ≡ first + k)
 
 -- the words of one node are 0, up to a place
 pub record NodeCleared (places node below : ℕ) (w w′ : Words) : Type 0 where

@@ -71,13 +71,15 @@ module _ {E : Type 0} (f : Arith E) (laws : Laws f) {q t : ℕ} (s : Shaped q t)
       let m = run .0 in
       let r = some-one f laws q t (rows-positive s) (among nodes) (s .few) q (omega arith) (elements f (laid (q ^ t) copied)) in
       let A : ℕ → ℕ → E = r .0 in
-      let w : Words = λ i p. f .code (A i p) in
-      (w, record {
-        codeword = record { codes = λ i p li lp. laws .code-below (A i p); checks = checks-same f s laws q A (elements f w) (λ i p li lp. sym (laws .of-code (A i p))) (r .2) };
-        same = λ i p li lp st.
-            let x = not-true (among nodes i) st in
-            ap (f .code) (r .1 i p li lp x) ∙ laws .code-of (laid (q ^ t) copied i p) (carried-code i p (stands-data i li x) lp);
-      })
+      let w : Words = λ i p. f .code (A i p) in (
+        w,
+        record {
+          codeword = record { codes = λ i p li lp. laws .code-below (A i p); checks = checks-same f s laws q A (elements f w) (λ i p li lp. sym (laws .of-code (A i p))) (r .2) };
+          same = λ i p li lp st.
+              let x = not-true (among nodes i) st in
+              ap (f .code) (r .1 i p li lp x) ∙ laws .code-of (laid (q ^ t) copied i p) (carried-code i p (stands-data i li x) lp);
+        },
+      )
 
   accepts : restore-refusal f q t (q * t) nodes copied ≡ None
   accepts = let m = run .0 in refusal-none f q t (q * t) nodes copied (omega arith) refl (omega arith)

@@ -23,7 +23,7 @@ pub node-clear-more : (n places node place : ℕ) (before now : List ℕ) → no
     → NodeCleared places node (place + 1) (laid places before) (laid places (set now at 0)) × Rest (n * places) before (set now at 0)
 node-clear-more n places node place before now ln lplace room inv rest at is = (
   subst (λ k. NodeCleared places node (place + 1) (laid places before) (laid places (set now k 0))) (sym is)
-  (record { none = λ p lp l. gone p lp l (cases-eq p place); kept = λ i p lp h. stays i p lp h }),
+      (record { none = λ p lp l. gone p lp l (cases-eq p place); kept = λ i p lp h. stays i p lp h }),
   drop-set-lt (n * places) now at 0 (let l = spot-within n places node place ln lplace in omega arith) ∙ rest,
 )
   where

@@ -79,9 +79,9 @@ module _ {E : Type 0} (f : Arith E) (laws : Laws f) where
       → Reduced f a before (set now e v) (e + 1) × Kept-from before (set now e v) (e + 1)
   reduced-more a before now e v room inv is = (
     below-next (λ j. reads f (set now e v) j ≡ minus f (reads f before (suc j)) (f .product a (reads f before j))) e
-    (λ j l. unwritten now e j v (omega arith) ∙ inv .0 j l)
-    (ap (λ w. reads f (set now e w) e) is ∙ written now e _ room
-    ∙ ap₂ (λ v w. minus f v (f .product a w)) (ap (read f) (inv .1 (e + 1) (omega arith)) ∙ ap (reads f before) (add-one e)) (ap (read f) (inv .1 e (omega arith)))),
+        (λ j l. unwritten now e j v (omega arith) ∙ inv .0 j l)
+        (ap (λ w. reads f (set now e w) e) is ∙ written now e _ room
+        ∙ ap₂ (λ v w. minus f v (f .product a w)) (ap (read f) (inv .1 (e + 1) (omega arith)) ∙ ap (reads f before) (add-one e)) (ap (read f) (inv .1 e (omega arith)))),
     kept-more before now e v (inv .1),
   )
 
@@ -91,9 +91,9 @@ module _ {E : Type 0} (f : Arith E) (laws : Laws f) where
       → Divided f a nodes before (set now k v) (k + 1) × Codes f (set now k v) (k + 1) × Kept-from before (set now k v) (k + 1)
   divided-more a nodes before now k v room inv is = (
     below-next (λ j. reads f (set now k v) j ≡ f .product (f .inverse (minus f (points f nodes j) a)) (reads f before j)) k
-    (λ j l. unwritten now k j v (omega arith) ∙ inv .0 j l)
-    (ap (λ w. reads f (set now k w) k) is ∙ written now k _ room
-    ∙ ap (f .product (f .inverse (minus f (points f nodes k) a))) (ap (read f) (inv .2 k (omega arith)))),
+        (λ j l. unwritten now k j v (omega arith) ∙ inv .0 j l)
+        (ap (λ w. reads f (set now k w) k) is ∙ written now k _ room
+        ∙ ap (f .product (f .inverse (minus f (points f nodes k) a))) (ap (read f) (inv .2 k (omega arith)))),
     codes-more now k v room (inv .1) (is ∙ refl),
     kept-more before now k v (inv .2),
   )
@@ -129,8 +129,8 @@ module _ {E : Type 0} (f : Arith E) (laws : Laws f) where
       let r : k < length v₃ = omega arith in
       let e : k + 1 ≡ n = omega arith in (
         subst (λ m. Solves f (points f nodes) (reads f (set v₃ k w)) (reads f v₀) m) is
-        (subst (λ v. Solves f (points f nodes) (reads f (set v₃ k v)) (reads f v₀) (suc k)) (sym w-is)
-        (solved-more nodes v₀ v₁ v₂ v₃ k a d a-is (λ i j li lj. apart i j (omega arith) (omega arith)) r (reduced .0) (solved .0) (divided .0) (d-is ∙ ap₂ (minus f) first-is rest-is))),
+            (subst (λ v. Solves f (points f nodes) (reads f (set v₃ k v)) (reads f v₀) (suc k)) (sym w-is)
+            (solved-more nodes v₀ v₁ v₂ v₃ k a d a-is (λ i j li lj. apart i j (omega arith) (omega arith)) r (reduced .0) (solved .0) (divided .0) (d-is ∙ ap₂ (minus f) first-is rest-is))),
         subst (λ m. Codes f (set v₃ k w) m) e (codes-more v₃ k w r (divided .1) w-is),
         λ j l. getD-set-other v₃ k j w 0 (omega arith) ∙ divided .2 j (omega arith) ∙ solved .1 j (omega arith) ∙ reduced .1 j (omega arith),
       )

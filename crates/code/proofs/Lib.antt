@@ -23,3 +23,4 @@ pub mod Clearing
 pub mod Runs
 pub mod Restoration
 pub mod Carrying
+pub mod Refilling

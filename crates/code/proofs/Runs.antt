@@ -32,8 +32,8 @@ pub run-more : (first k : ℕ) (nodes nodes′ : List ℕ) → Run first nodes k
 run-more first k nodes nodes′ run is = (
   ap length is ∙ length-push nodes (first + k) ∙ ap (λ m. m + 1) (run .0),
   below-next (λ j. getD nodes′ j 0 ≡ first + j) k
-  (λ j l. ap (λ xs. getD xs j 0) is ∙ getD-append-left nodes ((first + k) ∷ []) 0 j (let m = run .0 in omega arith) ∙ run .1 j l)
-  (ap (λ xs. getD xs k 0) is ∙ getD-push nodes (first + k) 0 k (run .0)),
+      (λ j l. ap (λ xs. getD xs j 0) is ∙ getD-append-left nodes ((first + k) ∷ []) 0 j (let m = run .0 in omega arith) ∙ run .1 j l)
+      (ap (λ xs. getD xs k 0) is ∙ getD-push nodes (first + k) 0 k (run .0)),
 )
 
 -- what is among them

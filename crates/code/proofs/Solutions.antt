@@ -38,8 +38,8 @@ module _ {E : Type 0} (f : Arith E) (laws : Laws f) where
       let x : ℕ → E = λ k. f .of (getD after k 0) in
       let s : ℕ → E = λ k. f .of (getD before k 0) in
       let solves-of : Solves f pt x s m = λ d h.
-          moment-same f laws pt x (reads f after) m d (λ k lk. sym (read-code f (getD after k 0) (codes k lk)))
-          ∙ solves d h ∙ read-code f (getD before d 0) (codes-before d h) in
+      moment-same f laws pt x (reads f after) m d (λ k lk. sym (read-code f (getD after k 0) (codes k lk)))
+      ∙ solves d h ∙ read-code f (getD before d 0) (codes-before d h) in
       record {
         codes = codes;
         solves = solves-of;

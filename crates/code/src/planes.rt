@@ -69,6 +69,12 @@ pub(crate) fn solve_plane<F: Field>(shape: Shape, out: &OutageList, words: &mut 
 {
     let solution = plane_solution::<F>(shape, out, words, place);
     for k in 0..out.len() {
-        write_symbol::<F>(shape, words, listed_node(out, k), place, element::<F>(solution[k]));
+        write_symbol::<F>(
+            shape,
+            words,
+            listed_node(out, k),
+            place,
+            element::<F>(solution[k]),
+        );
     }
 }

@@ -33,9 +33,8 @@ returns g c =
     let s = c .args .shape in
     let ws = c .args .words .now in
     let used = s .q * s .t * s .q ^ s .t in
-    let e : first-codes f ws used ≡ true = sym (front-codes f ws used _ (omega arith) (omega arith)) ∙ sym (c .if-not-all-codes .ensures tt) in
-    (
+    let e : first-codes f ws used ≡ true = sym (front-codes f ws used _ (omega arith) (omega arith)) ∙ sym (c .if-not-all-codes .ensures tt) in (
       le-ltb (length ws) used (omega arith),
       retold (c .planes-hold .result) {P = Checks f (s .q) (s .t) (s .q) (symbols f (s .q ^ s .t) ws)} {Q = Codeword f (s .q) (s .t) (laid (s .q ^ s .t) ws)}
-      (codeword f (shaped s) laws ws (codes-at f ws used e)) (codeword-checks f (shaped s) laws ws) (c .planes-hold .ensures),
+          (codeword f (shaped s) laws ws (codes-at f ws used e)) (codeword-checks f (shaped s) laws ws) (c .planes-hold .ensures),
     )

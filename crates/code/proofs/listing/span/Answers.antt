@@ -21,11 +21,10 @@ loop-k-again c =
     let k = c .loop-k .k in
     let n : now .count ≡ c .args .shape .q * c .args .shape .t = inv .0 ∙ c .none-list .ensures .count in
     let fits = c .pre in
-    let rises = run-rises (now .count) first k (outages now) (inv .1) (omega arith) (now .rises) in
-    (
+    let rises = run-rises (now .count) first k (outages now) (inv .1) (omega arith) (now .rises) in (
       c .push .ensures .count ∙ inv .0,
       run-more first k (outages now) (outages (c .push .last .self)) (inv .1)
-      (accepted (c .push .result) _ _ (c .push .ensures .list) (λ e h. both-ways (rising (now .count) (outages now ++ (first + k) ∷ [])) (h .2) rises)),
+          (accepted (c .push .result) _ _ (c .push .ensures .list) (λ e h. both-ways (rising (now .count) (outages now ++ (first + k) ∷ [])) (h .2) rises)),
     )
 
 pub returns : need.returns

@@ -23,6 +23,6 @@ loop-e-again g c =
     let inv = c .loop-e .inv in (
       length-set l e v ∙ inv .0,
       below-next (λ d. getD (set l e v) d 0 ≡ f .code (lacks f q t S A (c .args .place) d)) e
-      (λ d h. getD-set-other l e d v 0 (omega arith) ∙ inv .1 d h)
-      (getD-set-same l e v 0 (omega (arith, inv .0)) ∙ c .code .ensures ∙ ap (f .code) (c .negative .ensures ∙ ap (f .negative) (c .known-sum .ensures))),
+          (λ d h. getD-set-other l e d v 0 (omega arith) ∙ inv .1 d h)
+          (getD-set-same l e v 0 (omega (arith, inv .0)) ∙ c .code .ensures ∙ ap (f .code) (c .negative .ensures ∙ ap (f .negative) (c .known-sum .ensures))),
     )

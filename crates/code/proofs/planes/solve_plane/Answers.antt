@@ -39,11 +39,10 @@ loop-k-again g c =
     let s = c .args .shape in
     let o = c .args .out .now in
     let A = symbols f (s .q ^ s .t) in
-    let rises : rising (s .q * s .t) (outages o) ≡ true = subst (λ n. rising n (outages o) ≡ true) (c .pre .count) (o .rises) in
-    (
+    let rises : rising (s .q * s .t) (outages o) ≡ true = subst (λ n. rising n (outages o) ≡ true) (c .pre .count) (o .rises) in (
       written-more (s .q) (s .t) (outages o) rises (c .args .place) (c .pre .place) (reads f (c .plane-solution-solution .result)) (c .loop-k .k) (omega arith)
-      (A (c .args .words .now)) (A (c .loop-k .words)) (A (c .write-symbol .last .words)) (c .loop-k .inv .0)
-      (c .listed-node .result) (c .element .result) (c .listed-node .ensures) (c .element .ensures) (c .write-symbol .ensures .wrote),
+          (A (c .args .words .now)) (A (c .loop-k .words)) (A (c .write-symbol .last .words)) (c .loop-k .inv .0)
+          (c .listed-node .result) (c .element .result) (c .listed-node .ensures) (c .element .ensures) (c .write-symbol .ensures .wrote),
       sound-both f (s .q * s .t * s .q ^ s .t) (c .args .words .now) (c .loop-k .words) (c .write-symbol .last .words) (c .loop-k .inv .1) (c .write-symbol .ensures .sound),
     )
 

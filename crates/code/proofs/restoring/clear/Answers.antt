@@ -25,11 +25,11 @@ loop-node-again c =
     let inv = c .loop-node .inv in
     let G : List ℕ → Type 0 = λ us. Cleared P S (i + 1) (laid P before) (laid P us) × Rest (s .q * s .t * P) before us in
     elim (c .if-contains .came) [
-      then-contains w ↦ subst G (sym (w .words-is)) (
+      | then-contains w ↦ subst G (sym (w .words-is)) (
         clear-more P S i (laid P before) (laid P now) (laid P (w .clear-node .last .words)) (sym (c .contains .ensures) ∙ w .if-contains .taken) (inv .0) (w .clear-node .ensures .cleared),
         w .clear-node .ensures .rest ∙ inv .1,
       )
-    | else-contains w ↦ subst G (sym (w .words-is)) (clear-skip P S i (laid P before) (laid P now) (sym (c .contains .ensures) ∙ w .if-contains .left) (inv .0), inv .1)
+      | else-contains w ↦ subst G (sym (w .words-is)) (clear-skip P S i (laid P before) (laid P now) (sym (c .contains .ensures) ∙ w .if-contains .left) (inv .0), inv .1)
     ]
 
 pub returns : need.returns

@@ -30,8 +30,7 @@ loop-level-again g c =
     let turned = c .turn-score .last .words in
     let inv = c .loop-level .inv in
     let rises : rising (s .q * s .t) (outages o) ≡ true = subst (λ n. rising n (outages o) ≡ true) (c .pre .count) (o .rises) in
-    let n = rising-count (s .q * s .t) (outages o) rises in
-    (
+    let n = rising-count (s .q * s .t) (outages o) rises in (
       filled-more f laws (shaped s) S (length (outages o)) (c .loop-level .level) (A now) (A solved) (A turned) (c .solve-score .ensures .solved) (c .turn-score .ensures .turned) (A before) (omega arith) (inv .0),
       sound-both f used before solved turned (sound-both f used before now solved (inv .1) (c .solve-score .ensures .sound)) (c .turn-score .ensures .sound),
     )

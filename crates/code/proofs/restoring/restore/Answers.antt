@@ -69,8 +69,7 @@ returns-then-planes-hold g c =
     let used = s .q * s .t * s .q ^ s .t in
     let n : o .count ≡ s .q * s .t = sym (c .nodes .ensures) ∙ c .if-nodes .left ∙ c .nodes-2 .ensures in
     let rises : rising (s .q * s .t) (outages o) ≡ true = subst (λ k. rising k (outages o) ≡ true) n (o .rises) in
-    let codes = codes-at f cs used (sym (front-codes f cs used _ (omega arith) (omega arith)) ∙ sym (c .if-not-all-codes .ensures tt)) in
-    (
+    let codes = codes-at f cs used (sym (front-codes f cs used _ (omega arith) (omega arith)) ∙ sym (c .if-not-all-codes .ensures tt)) in (
       refusal-none f (s .q) (s .t) (o .count) (outages o) ws (omega arith) n (omega arith),
       only-agrees f laws (shaped s) (outages o) ws cs (c .clear .ensures .cleared) (c .fill .last .words) rises (omega arith) codes (c .fill .ensures .sound) (c .fill .ensures .checks) (c .fill .ensures .kept) (c .if-planes-hold .ensures tt),
       c .fill .ensures .sound .0 ∙ c .clear .ensures .rest,

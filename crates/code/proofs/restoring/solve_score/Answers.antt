@@ -28,11 +28,11 @@ loop-place-again g c =
     let inv = c .loop-place .inv in
     let G : List ℕ → Type 0 = λ us. ScoreSolved f (s .q) (s .t) S (c .args .level) (p + 1) (A before) (A us) × Sound f (s .q * s .t * s .q ^ s .t) before us in
     elim (c .if-score-level .came) [
-      then-score-level w ↦ subst G (sym (w .words-is)) (
+      | then-score-level w ↦ subst G (sym (w .words-is)) (
         solved-more f laws (shaped s) S (c .args .level) p (A before) (A now) (A (w .solve-plane .last .words)) (omega arith) (sym (c .score .ensures) ∙ w .if-score-level .taken) (inv .0) (w .solve-plane .ensures .solved),
         sound-both f (s .q * s .t * s .q ^ s .t) before now (w .solve-plane .last .words) (inv .1) (w .solve-plane .ensures .sound),
       )
-    | else-score-level w ↦ subst G (sym (w .words-is)) (solved-skip f laws (shaped s) S (c .args .level) p (A before) (A now) (λ e. w .if-score-level .left (c .score .ensures ∙ e)) (inv .0), inv .1)
+      | else-score-level w ↦ subst G (sym (w .words-is)) (solved-skip f laws (shaped s) S (c .args .level) p (A before) (A now) (λ e. w .if-score-level .left (c .score .ensures ∙ e)) (inv .0), inv .1)
     ]
 
 pub returns : need.returns

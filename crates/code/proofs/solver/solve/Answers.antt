@@ -33,11 +33,10 @@ returns g c =
     let o = outages (c .args .out .now) in
     let v = c .args .sides .now in
     let e : first-codes f v (length o) ≡ true = sym (front-codes f v (length o) _ (omega arith) (omega arith)) ∙ sym (c .if-not-all-codes .ensures tt) in
-    let n : c .len-n .result ≡ length o = c .len-n .ensures in
-    (
+    let n : c .len-n .result ≡ length o = c .len-n .ensures in (
       cond-false (ltb (length v) (length o)) _ _ (le-ltb (length v) (length o) (omega arith)) ∙ cond-false (not (first-codes f v (length o))) _ _ (not-from-true (first-codes f v (length o)) e),
       solution f (g .F·Field·met .lawful) (c .args .out .now .count) o v (c .solve-first .last .sides) (c .args .out .now .few) (c .args .out .now .rises) (omega arith)
-      (codes-at f v (length o) e) (λ k l. c .solve-first .ensures .codes k (omega arith))
-      (subst (λ m. Solves f (points f o) (reads f (c .solve-first .last .sides)) (reads f v) m) n (c .solve-first .ensures .solves))
-      (λ k l. c .solve-first .ensures .kept k (omega arith)),
+          (codes-at f v (length o) e) (λ k l. c .solve-first .ensures .codes k (omega arith))
+          (subst (λ m. Solves f (points f o) (reads f (c .solve-first .last .sides)) (reads f v) m) n (c .solve-first .ensures .solves))
+          (λ k l. c .solve-first .ensures .kept k (omega arith)),
     )

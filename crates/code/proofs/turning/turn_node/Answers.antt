@@ -28,12 +28,12 @@ loop-place-again g c =
     let inv = c .loop-place .inv in
     let G : List ℕ → Type 0 = λ us. NodeTurned f (s .q) (s .t) S (c .args .level) (c .args .node) (p + 1) (A before) (A us) × Sound f (s .q * s .t * s .q ^ s .t) before us in
     elim (c .if-score-level .came) [
-      then-score-level w ↦ subst G (sym (w .words-is)) (
+      | then-score-level w ↦ subst G (sym (w .words-is)) (
         node-more f laws (shaped s) S (c .args .level) (c .args .node) (c .pre .node) p (A before) (A now) (A (w .write-symbol .last .words)) (w .turned-a .result) (omega arith)
-        (sym (c .score .ensures) ∙ w .if-score-level .taken) (inv .0) (w .turned-a .ensures) (w .write-symbol .ensures .wrote),
+            (sym (c .score .ensures) ∙ w .if-score-level .taken) (inv .0) (w .turned-a .ensures) (w .write-symbol .ensures .wrote),
         sound-both f (s .q * s .t * s .q ^ s .t) before now (w .write-symbol .last .words) (inv .1) (w .write-symbol .ensures .sound),
       )
-    | else-score-level w ↦ subst G (sym (w .words-is)) (
+      | else-score-level w ↦ subst G (sym (w .words-is)) (
         node-skip f laws (shaped s) S (c .args .level) (c .args .node) (c .pre .node) p (A before) (A now) (λ e. w .if-score-level .left (c .score .ensures ∙ e)) (inv .0),
         inv .1,
       )

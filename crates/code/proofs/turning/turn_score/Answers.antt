@@ -28,11 +28,11 @@ loop-node-again g c =
     let inv = c .loop-node .inv in
     let G : List ℕ → Type 0 = λ us. ScoreTurned f (s .q) (s .t) S (c .args .level) (i + 1) (A before) (A us) × Sound f (s .q * s .t * s .q ^ s .t) before us in
     elim (c .if-contains .came) [
-      then-contains w ↦ subst G (sym (w .words-is)) (
+      | then-contains w ↦ subst G (sym (w .words-is)) (
         turned-more f laws (shaped s) S (c .args .level) i (A before) (A now) (A (w .turn-node .last .words)) (omega arith) (sym (c .contains .ensures) ∙ w .if-contains .taken) (inv .0) (w .turn-node .ensures .turned),
         sound-both f (s .q * s .t * s .q ^ s .t) before now (w .turn-node .last .words) (inv .1) (w .turn-node .ensures .sound),
       )
-    | else-contains w ↦ subst G (sym (w .words-is)) (turned-skip f laws (shaped s) S (c .args .level) i (A before) (A now) (sym (c .contains .ensures) ∙ w .if-contains .left) (inv .0), inv .1)
+      | else-contains w ↦ subst G (sym (w .words-is)) (turned-skip f laws (shaped s) S (c .args .level) i (A before) (A now) (sym (c .contains .ensures) ∙ w .if-contains .left) (inv .0), inv .1)
     ]
 
 pub returns : need.returns

@@ -52,10 +52,10 @@ returns-else-c-node g c =
     let h = c .in-Ok .ensures tt in
     let o : row (s .q) (c .args .node) ≡ digit (s .q) (c .args .place) (column (s .q) (c .args .node)) → ⊥ = λ e. c .if-row-digit .left (cc) in
     let which : (companion-node (s .q) (c .args .node) (c .args .place) ≤ c .args .node) ⊎ (S (companion-node (s .q) (c .args .node) (c .args .place)) ≡ false) =
-        elim (c .else-c-node .came) [
-          else-c-node·by·then-c-node·else-contains w ↦ inr (ap S (sym (h .2)) ∙ sym (w .contains .ensures) ∙ w .if-contains .left)
-        | else-c-node·by·else-c-node w ↦ inl (let l = w .if-c-node .left in omega (arith, h .2))
-        ] in
+    elim (c .else-c-node .came) [
+      | else-c-node·by·then-c-node·else-contains w ↦ inr (ap S (sym (h .2)) ∙ sym (w .contains .ensures) ∙ w .if-contains .left)
+      | else-c-node·by·else-c-node w ↦ inl (let l = w .if-c-node .left in omega (arith, h .2))
+    ] in
     c .difference .ensures
     ∙ ap₂ (minus f) (c .symbol-own .ensures) (c .product .ensures ∙ ap₂ (f .product) (c .coupling-element .ensures) (c .symbol-other .ensures ∙ ap₂ A (h .2) (h .3)))
     ∙ sym (now-one f (g .F·Field·met .lawful) (shaped s) S A (c .args .node) (c .args .place) o which)

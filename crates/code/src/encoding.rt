@@ -4,6 +4,7 @@ ghost use Prim.Native.Nat.{ℕ, _*_, _^_, _<_, _≤_};
 ghost use lib.ListN.{length, getD};
 ghost use Rattle.code.specs.Calls.{Encoded};
 ghost use Rattle.code.specs.Solving.{Kept-from};
+ghost use Rattle.code.specs.Theorems.{Some-one};
 use crate::checking::all_codes;
 use crate::listing::span;
 use crate::restoring::restore;
@@ -24,7 +25,8 @@ fn copy_message(message: &[u16], words: &mut [u16])
 
 // Makes the first words the only codeword that carries the message in its data nodes.
 pub fn encode<F: Field>(shape: Shape, message: &[u16], words: &mut [u16]) -> Result<(), Refusal>
-    ensures { λ r. ⌜ Encoded (F·Field .arith) (shape .q) (shape .t) (now (message .entry)) (now (words .entry)) r (now (words .exit)) ⌝ }
+    ensures encoded { λ r. ⌜ Encoded (F·Field .arith) (shape .q) (shape .t) (now (message .entry)) (now (words .entry)) r (now (words .exit)) ⌝ }
+    ensures some_one { λ _. ⌜ Some-one (F·Field .arith) ⌝ }
 {
     if message.len() != shape.message_words() {
         return Err(Refusal::MessageLength);

@@ -7,6 +7,7 @@ ghost use Rattle.code.specs.Code.{laid};
 ghost use Rattle.code.specs.Filling.{refill};
 ghost use Rattle.code.specs.Reading.{symbols};
 ghost use Rattle.code.specs.Steps.{NodeRefilled, Run};
+ghost use Rattle.code.specs.Theorems.{Repair-one, Repair-some};
 ghost use Rattle.shape.specs.Layout.{column as column-of};
 ghost use Rattle.shape.specs.Listing.{outages};
 ghost use Rattle.shape.specs.Outages.{among};
@@ -100,7 +101,9 @@ fn refill<F: Field>(shape: Shape, words: &mut [u16], node: usize)
 
 // Makes the words of a node the only codes with which the checks of the planes that help it hold.
 pub fn rebuild<F: Field>(shape: Shape, node: usize, words: &mut [u16]) -> Result<(), Refusal>
-    ensures { λ r. ⌜ Rebuilt (F·Field .arith) (shape .q) (shape .t) node (now (words .entry)) r (now (words .exit)) ⌝ }
+    ensures rebuilt { λ r. ⌜ Rebuilt (F·Field .arith) (shape .q) (shape .t) node (now (words .entry)) r (now (words .exit)) ⌝ }
+    ensures repair_one { λ _. ⌜ Repair-one (F·Field .arith) ⌝ }
+    ensures repair_some { λ _. ⌜ Repair-some (F·Field .arith) ⌝ }
 {
     if words.len() < shape.words() {
         return Err(Refusal::WorkSpace);

@@ -20,4 +20,7 @@ pub mod Scored
 pub mod Coupling
 pub mod Filled
 pub mod Clearing
+pub mod Runs
 pub mod Restoration
+pub mod Carrying
+pub mod Refilling

@@ -19,7 +19,7 @@ use Rattle.code.specs.Steps.{lacks, Holds-solution, PlaneSolved, Wrote}
 use Rattle.code.specs.Theorems.{Solves}
 use Rattle.code.proofs.Gather.{moment-parts}
 use Rattle.code.proofs.InPlace.{below-next, listed-apart}
-use Rattle.code.proofs.Main.{vandermonde-one}
+use Rattle.code.proofs.Main.{only-solution}
 use Rattle.code.proofs.OnlyOne.{nodes-apart}
 use Rattle.code.proofs.Sums.{moment-same, moment-zero}
 use Rattle.code.proofs.Vandermonde.{solved}
@@ -61,7 +61,7 @@ module _ {E : Type 0} (f : Arith E) (laws : Laws f) {q t : ℕ} (s : Shaped q t)
       → Solves f (points f nodes) (reads f after) (reads f before) (length nodes) → Holds-solution f q t (among nodes) A p nodes after (length nodes)
   unfolding b S
   plane-solved before after sides solves k l =
-      vandermonde-one f laws (length nodes) (points f nodes) (lacks f q t (among nodes) A p) (reads f after) (λ j. b (getD nodes j 0))
+      only-solution f laws (length nodes) (points f nodes) (lacks f q t (among nodes) A p) (reads f after) (λ j. b (getD nodes j 0))
       (listed-apart f laws (q * t) nodes (s .few) rises) (λ e le. solves e le ∙ sides e le) (λ e le. sym (gathered e) ∙ facts .1 e le) k l
 
 -- the solutions xs of the first k nodes are written into plane `place`

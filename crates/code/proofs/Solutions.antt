@@ -13,7 +13,7 @@ use Rattle.code.specs.Calls.{Rest, Solution}
 use Rattle.code.specs.Solving.{Kept-from, reads, points, Codes}
 use Rattle.code.specs.Theorems.{Apart, Solves}
 use Rattle.code.proofs.InPlace.{listed-apart}
-use Rattle.code.proofs.Main.{vandermonde-one}
+use Rattle.code.proofs.Main.{only-solution}
 use Rattle.code.proofs.Sums.{moment-same}
 use Rattle.code.proofs.Words.{read-code}
 
@@ -45,6 +45,6 @@ module _ {E : Type 0} (f : Arith E) (laws : Laws f) where
         solves = solves-of;
         only = λ y hy solves-y k lk.
             same-word (getD y k 0) (getD after k 0) (hy k lk) (codes k lk)
-            (vandermonde-one f laws m pt s (λ j. f .of (getD y j 0)) x (listed-apart f laws n nodes few e) solves-y solves-of k lk);
+            (only-solution f laws m pt s (λ j. f .of (getD y j 0)) x (listed-apart f laws n nodes few e) solves-y solves-of k lk);
         rest = rest-kept m before after l kept;
       }

@@ -114,9 +114,13 @@ module _ {E : Type 0} (f : Arith E) (q t : ℕ) where
   abbrev pub helps : (i p : ℕ) → Bool
   helps i p = eqb (digit q p (column q i)) (row q i)
 
-  -- every word of another node at a place that helps is a code
+  -- every word of node j at a place that helps is a code
+  abbrev pub helper-codes : Words → (i j : ℕ) → Bool
+  helper-codes w i j = every (λ p. cond (helps i p) (ltb (w j p) (f .size)) true) (q ^ t)
+
+  -- so it is of every other node
   abbrev pub good-help : Words → ℕ → Bool
-  good-help w i = every (λ j. cond (eqb j i) true (every (λ p. cond (helps i p) (ltb (w j p) (f .size)) true) (q ^ t))) (q * t)
+  good-help w i = every (λ j. cond (eqb j i) true (helper-codes w i j)) (q * t)
 
   abbrev pub rebuild-refusal : (i : ℕ) (ws : List ℕ) → Option Refusal
   rebuild-refusal i ws = first (short ws) WorkSpace (first (not (ltb i (q * t))) NoSuchPlace (first (not (good-help (laid (q ^ t) ws) i)) BadWord None))

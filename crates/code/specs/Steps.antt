@@ -3,15 +3,21 @@ use mathlib.Core.Path.{_≡_}
 use mathlib.Core.Logic.{_≢_, _⊎_}
 use mathlib.Core.Bool.{Bool, true, false, cond}
 use mathlib.Core.List.{List}
-use Prim.Native.Nat.{ℕ, _*_, _^_, _<_, _≤_}
+use Prim.Native.Nat.{ℕ, _+_, _*_, _^_, _<_, _≤_}
 use lib.Dec.{eqb, ltb}
-use lib.ListN.{getD}
+use lib.ListN.{length, getD}
 use Rattle.field.specs.Field.{Arith}
 use Rattle.shape.specs.Layout.{row, column, digit, companion-node, companion-place}
-use Rattle.code.specs.Calls.{Rest}
-use Rattle.code.specs.Code.{Words, minus, moment}
-use Rattle.code.specs.Filling.{score, known, solution, of-pair, turn}
+use Rattle.shape.specs.Outages.{among, rising}
+use Rattle.code.specs.Calls.{Rest, Others}
+use Rattle.code.specs.Code.{Words, laid, minus, moment}
+use Rattle.code.specs.Filling.{score, known, solution, of-pair, turn, refill}
+use Rattle.code.specs.Reading.{symbols}
 use Rattle.code.specs.Solving.{Codes, reads}
+
+-- a list of n numbers that follow each other
+abbrev pub Run : (first : ℕ) (nodes : List ℕ) (n : ℕ) → Type 0
+Run first nodes n = (length nodes ≡ n) × ((k : ℕ) → k < n → getD nodes k 0 ≡ first + k)
 
 -- the words of one node are 0, up to a place
 pub record NodeCleared (places node below : ℕ) (w w′ : Words) : Type 0 where
@@ -69,3 +75,16 @@ module _ {E : Type 0} (f : Arith E) where
     pub record ScoreTurned (level below : ℕ) (A A′ : ℕ → ℕ → E) : Type 0 where
       pub made : (i p : ℕ) → i < q * t → p < q ^ t → erased i ≡ true → score q t erased p ≡ level → i < below → A′ i p ≡ turn f q erased A A i p
       pub kept : (i p : ℕ) → i < q * t → p < q ^ t → (erased i ≡ false) ⊎ ((score q t erased p ≢ level) ⊎ (below ≤ i)) → A′ i p ≡ A i p
+
+  -- the words of one node are codes of what the planes that help it give, up to a place, and the other words are as they were
+  pub record Refilled-to (q t : ℕ) (erased : ℕ → Bool) (node below : ℕ) (before after : List ℕ) : Type 0 where
+    pub made : (p : ℕ) → p < q ^ t → p < below → symbols f (q ^ t) after node p ≡ refill f q t erased node (symbols f (q ^ t) before) p
+    pub codes : (p : ℕ) → p < q ^ t → p < below → laid (q ^ t) after node p < f .size
+    pub others : Others f q t node before after
+
+  -- the erased nodes being those of its column
+  pub record NodeRefilled (q t node : ℕ) (before after : List ℕ) : Type 0 where
+    pub nodes : List ℕ
+    pub rises : rising (q * t) nodes ≡ true
+    pub run : Run (column q node * q) nodes q
+    pub filled : Refilled-to q t (among nodes) node (q ^ t) before after

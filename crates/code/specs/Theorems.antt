@@ -18,10 +18,10 @@ module _ {E : Type 0} (f : Arith E) where
   Solves point x s n = (e : ℕ) → e < n → moment f point x n e ≡ s e
 
   -- with n points that differ, n moments have exactly one solution
-  abbrev pub Vandermonde-some : Type 0
+  unfoldable pub Vandermonde-some : Type 0
   Vandermonde-some = (n : ℕ) (point s : ℕ → E) → Apart point n → (x : ℕ → E) × Solves point x s n
 
-  abbrev pub Vandermonde-one : Type 0
+  unfoldable pub Vandermonde-one : Type 0
   Vandermonde-one = (n : ℕ) (point s x y : ℕ → E) → Apart point n → Solves point x s n → Solves point y s n → (i : ℕ) → i < n → x i ≡ y i
 
   -- two arrays agree at the nodes that are not erased
@@ -29,13 +29,13 @@ module _ {E : Type 0} (f : Arith E) where
   Agree q t erased A A′ = (i p : ℕ) → i < q * t → p < q ^ t → erased i ≡ false → A i p ≡ A′ i p
 
   -- m checks a plane settle up to m erased nodes
-  abbrev pub Only-one : Type 0
+  unfoldable pub Only-one : Type 0
   Only-one =
       (q t m : ℕ) (erased : ℕ → Bool) (A A′ : ℕ → ℕ → E) → 0 < q → q * t ≤ 16 → count erased (q * t) ≤ m
       → Checks f q t m A → Checks f q t m A′ → Agree q t erased A A′ → (i p : ℕ) → i < q * t → p < q ^ t → A i p ≡ A′ i p
 
   -- and at least m erased nodes can be filled so that m checks a plane hold
-  abbrev pub Some-one : Type 0
+  unfoldable pub Some-one : Type 0
   Some-one =
       (q t m : ℕ) (erased : ℕ → Bool) (A : ℕ → ℕ → E) → 0 < q → q * t ≤ 16 → m ≤ count erased (q * t)
       → (A′ : ℕ → ℕ → E) × Agree q t erased A′ A × Checks f q t m A′
@@ -53,13 +53,13 @@ module _ {E : Type 0} (f : Arith E) where
   Agree-help q t lost A A′ = (i p : ℕ) → i < q * t → p < q ^ t → Helps q lost p → i ≢ lost → A i p ≡ A′ i p
 
   -- the planes that help settle every symbol of the lost node
-  abbrev pub Repair-one : Type 0
+  unfoldable pub Repair-one : Type 0
   Repair-one =
       (q t lost : ℕ) (A A′ : ℕ → ℕ → E) → 0 < q → q * t ≤ 16 → lost < q * t
       → Help-checks q t lost A → Help-checks q t lost A′ → Agree-help q t lost A A′ → (p : ℕ) → p < q ^ t → A lost p ≡ A′ lost p
 
   -- and whatever the other nodes hold, it can be filled so that their checks hold
-  abbrev pub Repair-some : Type 0
+  unfoldable pub Repair-some : Type 0
   Repair-some =
       (q t lost : ℕ) (A : ℕ → ℕ → E) → 0 < q → q * t ≤ 16 → lost < q * t
       → (A′ : ℕ → ℕ → E) × ((i p : ℕ) → i ≢ lost → A′ i p ≡ A i p) × Help-checks q t lost A′

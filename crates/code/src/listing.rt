@@ -2,6 +2,7 @@
 ghost use mathlib.Core.Path.{_≡_};
 ghost use Prim.Native.Nat.{_+_, _*_, _≤_};
 ghost use lib.ListN.{getD};
+ghost use Rattle.code.specs.Steps.{Run};
 ghost use Rattle.shape.specs.Listing.{outages};
 use shape::OutageList;
 use shape::Shape;
@@ -20,6 +21,7 @@ pub(crate) fn listed_node(out: &OutageList, index: usize) -> usize
 pub(crate) fn span(shape: Shape, first: usize) -> OutageList
     requires { ⌜ first + shape .q ≤ shape .q * shape .t ⌝ }
     ensures count { λ r. ⌜ r .count ≡ shape .q * shape .t ⌝ }
+    ensures nodes { λ r. ⌜ Run first (outages r) (shape .q) ⌝ }
 {
     let mut list = OutageList::none(shape);
     for k in 0..shape.rows() {

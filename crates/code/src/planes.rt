@@ -33,10 +33,10 @@ pub(crate) fn score(shape: Shape, out: &OutageList, place: usize) -> usize
 fn plane_sides<F: Field>(shape: Shape, out: &OutageList, words: &[u16], place: usize) -> [u16; 16]
     requires place { ⌜ place < shape .q ^ shape .t ⌝ }
     requires room { ⌜ shape .q * shape .t * shape .q ^ shape .t ≤ length (now words) ⌝ }
-    ensures { λ r. ⌜ ((e : ℕ) → e < 16 → getD r e 0 ≡ F·Field .arith .code (lacks (F·Field .arith) (shape .q) (shape .t) (among (outages (now (out .entry)))) (symbols (F·Field .arith) (shape .q ^ shape .t) (now (words .entry))) place e)) ⌝ }
+    ensures { λ r. ⌜ ((e : ℕ) → e < length (outages (now (out .entry))) → getD r e 0 ≡ F·Field .arith .code (lacks (F·Field .arith) (shape .q) (shape .t) (among (outages (now (out .entry)))) (symbols (F·Field .arith) (shape .q ^ shape .t) (now (words .entry))) place e)) ⌝ }
 {
     let mut sides = [0u16; 16];
-    for e in 0..16 {
+    for e in 0..out.len() {
         sides[e] = F::code(F::negative(known_sum::<F>(shape, out, words, place, e)));
     }
     sides

@@ -2,6 +2,15 @@
 ghost use mathlib.Core.Path.{_≡_};
 ghost use Prim.Native.Nat.{_*_, _^_, _<_, _≤_};
 ghost use lib.ListN.{length};
+ghost use Rattle.code.specs.Calls.{Rebuilt, good-help, helper-codes};
+ghost use Rattle.code.specs.Code.{laid};
+ghost use Rattle.code.specs.Filling.{refill};
+ghost use Rattle.code.specs.Reading.{symbols};
+ghost use Rattle.code.specs.Steps.{NodeRefilled, Run};
+ghost use Rattle.code.specs.Theorems.{Repair-one, Repair-some};
+ghost use Rattle.shape.specs.Layout.{column as column-of};
+ghost use Rattle.shape.specs.Listing.{outages};
+ghost use Rattle.shape.specs.Outages.{among};
 use crate::arithmetic::difference;
 use crate::arithmetic::element;
 use crate::listing::span;
@@ -18,6 +27,7 @@ use shape::Shape;
 fn helper_codes<F: Field>(shape: Shape, words: &[u16], node: usize, helper: usize) -> bool
     requires helper { ⌜ helper < shape .q * shape .t ⌝ }
     requires room { ⌜ shape .q * shape .t * shape .q ^ shape .t ≤ length (now words) ⌝ }
+    ensures { λ r. ⌜ r ≡ helper-codes (F·Field .arith) (shape .q) (shape .t) (laid (shape .q ^ shape .t) (now (words .entry))) node helper ⌝ }
 {
     let size = F::codes();
     for place in 0..shape.places() {
@@ -34,6 +44,7 @@ fn helper_codes<F: Field>(shape: Shape, words: &[u16], node: usize, helper: usiz
 // Whether every helper word of a node is a code.
 fn help_codes<F: Field>(shape: Shape, words: &[u16], node: usize) -> bool
     requires { ⌜ shape .q * shape .t * shape .q ^ shape .t ≤ length (now words) ⌝ }
+    ensures { λ r. ⌜ r ≡ good-help (F·Field .arith) (shape .q) (shape .t) (laid (shape .q ^ shape .t) (now (words .entry))) node ⌝ }
 {
     for helper in 0..shape.nodes() {
         if helper != node && !helper_codes::<F>(shape, words, node, helper) {
@@ -55,6 +66,8 @@ fn refilled<F: Field>(
     requires place { ⌜ place < shape .q ^ shape .t ⌝ }
     requires room { ⌜ shape .q * shape .t * shape .q ^ shape .t ≤ length (now words) ⌝ }
     requires count { ⌜ now column .count ≡ shape .q * shape .t ⌝ }
+    requires nodes { ⌜ Run (column-of (shape .q) node * shape .q) (outages (now column)) (shape .q) ⌝ }
+    ensures { λ r. ⌜ r ≡ refill (F·Field .arith) (shape .q) (shape .t) (among (outages (now (column .entry)))) node (symbols (F·Field .arith) (shape .q ^ shape .t) (now (words .entry))) place ⌝ }
 {
     match shape.companion(node, place) {
         Ok((c, d)) => {
@@ -77,6 +90,7 @@ fn refilled<F: Field>(
 fn refill<F: Field>(shape: Shape, words: &mut [u16], node: usize)
     requires node { ⌜ node < shape .q * shape .t ⌝ }
     requires room { ⌜ shape .q * shape .t * shape .q ^ shape .t ≤ length (now words) ⌝ }
+    ensures { λ _. ⌜ NodeRefilled (F·Field .arith) (shape .q) (shape .t) node (now (words .entry)) (now (words .exit)) ⌝ }
 {
     let column = span(shape, shape.column(node) * shape.rows());
     for place in 0..shape.places() {
@@ -86,7 +100,11 @@ fn refill<F: Field>(shape: Shape, words: &mut [u16], node: usize)
 }
 
 // Makes the words of a node the only codes with which the checks of the planes that help it hold.
-pub fn rebuild<F: Field>(shape: Shape, node: usize, words: &mut [u16]) -> Result<(), Refusal> {
+pub fn rebuild<F: Field>(shape: Shape, node: usize, words: &mut [u16]) -> Result<(), Refusal>
+    ensures rebuilt { λ r. ⌜ Rebuilt (F·Field .arith) (shape .q) (shape .t) node (now (words .entry)) r (now (words .exit)) ⌝ }
+    ensures repair_one { λ _. ⌜ Repair-one (F·Field .arith) ⌝ }
+    ensures repair_some { λ _. ⌜ Repair-some (F·Field .arith) ⌝ }
+{
     if words.len() < shape.words() {
         return Err(Refusal::WorkSpace);
     }

@@ -6,7 +6,7 @@ ghost use Rattle.code.specs.Calls.{Rest, Restored};
 ghost use Rattle.code.specs.Code.{Checks, laid};
 ghost use Rattle.code.specs.Reading.{symbols};
 ghost use Rattle.code.specs.Steps.{Cleared, NodeCleared, ScoreSolved, Sound};
-ghost use Rattle.code.specs.Theorems.{Agree};
+ghost use Rattle.code.specs.Theorems.{Agree, Only-one};
 ghost use Rattle.shape.specs.Listing.{outages};
 ghost use Rattle.shape.specs.Outages.{among};
 use crate::checking::all_codes;
@@ -76,7 +76,8 @@ fn fill<F: Field>(shape: Shape, out: &OutageList, words: &mut [u16])
 
 // Makes the first words the only codeword that agrees with the nodes that are not listed, at most q being listed.
 pub fn restore<F: Field>(shape: Shape, out: &OutageList, words: &mut [u16]) -> Result<(), Refusal>
-    ensures { λ r. ⌜ Restored (F·Field .arith) (shape .q) (shape .t) (now (out .entry) .count) (outages (now (out .entry))) (now (words .entry)) r (now (words .exit)) ⌝ }
+    ensures restored { λ r. ⌜ Restored (F·Field .arith) (shape .q) (shape .t) (now (out .entry) .count) (outages (now (out .entry))) (now (words .entry)) r (now (words .exit)) ⌝ }
+    ensures only_one { λ _. ⌜ Only-one (F·Field .arith) ⌝ }
 {
     let used = shape.words();
     if words.len() < used {

@@ -5,7 +5,7 @@ ghost use lib.ListN.{length, getD};
 ghost use Rattle.code.specs.Calls.{Solved};
 ghost use Rattle.code.specs.Code.{total};
 ghost use Rattle.code.specs.Solving.{Codes, Divided, Kept-from, Reduced, points, reads};
-ghost use Rattle.code.specs.Theorems.{Solves};
+ghost use Rattle.code.specs.Theorems.{Solves, Vandermonde-one, Vandermonde-some};
 ghost use Rattle.shape.specs.Listing.{outages};
 use crate::arithmetic::difference;
 use crate::arithmetic::element;
@@ -83,7 +83,9 @@ pub(crate) fn solve_first<F: Field>(out: &OutageList, sides: &mut [u16], n: usiz
 // Finds the only codes x with the moments that the first words are: word e is the sum over the listed nodes of point^e times x.
 // The words are then those codes.
 pub fn solve<F: Field>(out: &OutageList, sides: &mut [u16]) -> Result<(), Refusal>
-    ensures { λ r. ⌜ Solved (F·Field .arith) (outages (now (out .entry))) (now (sides .entry)) r (now (sides .exit)) ⌝ }
+    ensures solved { λ r. ⌜ Solved (F·Field .arith) (outages (now (out .entry))) (now (sides .entry)) r (now (sides .exit)) ⌝ }
+    ensures some_solution { λ _. ⌜ Vandermonde-some (F·Field .arith) ⌝ }
+    ensures one_solution { λ _. ⌜ Vandermonde-one (F·Field .arith) ⌝ }
 {
     let n = out.len();
     if sides.len() < n {

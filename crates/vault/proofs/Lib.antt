@@ -7,3 +7,5 @@ pub mod Listing
 pub mod Gathering
 pub mod Scattering
 pub mod Fetching
+pub mod Carrying
+pub mod Recovering

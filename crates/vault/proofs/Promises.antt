@@ -28,6 +28,7 @@ use Rattle.vault.specs.declared.answer.Answer.{Answer}
 use Rattle.vault.specs.Calls.{wrong-size, short, out-count, Now, Repair, Recover, Read, repair-refusal, recover-refusal, repair-meters, NotRepaired, NotRecovered, Unrecovered}
 use Rattle.vault.specs.History.{Event, After, altered, last-message, differs, differ-count, RecoverPromise, RecoverHolds, RepairPromise, RepairHolds, ReadPromise}
 use Rattle.vault.proofs.Fetching.{data-node, among-all}
+use Rattle.vault.proofs.Recovering.{recover-none}
 use Rattle.vault.proofs.Refusing.{first-none, first-pass, sized}
 use Rattle.vault.proofs.Tallies.{count-none, count-zero, count-either}
 use Rattle.vault.proofs.Invariant.{Kept, keeps, others-stand, refilled}
@@ -73,12 +74,6 @@ module _ {E : Type 0} (f : Arith E) (q t : ℕ) (only-help : Only-help f q t) (o
         let up : m .flags i ≡ true = not-false (m .flags i) (n .0) in
         agrees .same i p li lp up ∙ alike i up (n .1) p lp)
 
-  -- a recover with a long enough space, where few nodes are out, passes the tests
-  recover-none : (m : Model) (space : ℕ) → m .nodes ≡ q * t → m .places ≡ q ^ t → short q t space ≡ false → out-count q t m ≤ q → recover-refusal f q t m space ≡ None
-  recover-none m space a b s few =
-      first-pass (wrong-size q t m) Size _ (sized q t m a b) ∙ first-pass (short q t space) WorkSpace _ s
-      ∙ first-pass (ltb q (out-count q t m)) TooManyOut None (le-ltb q (out-count q t m) few)
-
   standing-codes : (m : Model) → ((i p : ℕ) → i < q * t → p < q ^ t → m .flags i ≡ true → m .words i p < f .size) → good-standing f q t (m .flags) (m .words) ≡ true
   standing-codes m codes = every-from (λ i. cond (m .flags i) (every (λ p. ltb (m .words i p) (f .size)) (q ^ t)) true) (q * t) (λ i li. go i li (cases-bool (m .flags i)))
     where
@@ -111,7 +106,7 @@ module _ {E : Type 0} (f : Arith E) (q t : ℕ) (only-help : Only-help f q t) (o
       k = keeps f q t only-help (after .led)
 
       unrefused : NotRecovered f q t m e m′ None
-      unrefused = subst (λ o. NotRecovered f q t m e m′ o) (recover-none m space (k .nodes) (k .places) room (omega arith)) s
+      unrefused = subst (λ o. NotRecovered f q t m e m′ o) (recover-none f q t m space (k .nodes) (k .places) room (omega arith)) s
 
       go : (b : Bool) → b ≡ true → Unrecovered f q t m e b → differ-count f q t m w ≡ 0 → ⊥
       go true g u z = u .1 w (none-differ m w (after .encodes .codeword) z)

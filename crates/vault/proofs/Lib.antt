@@ -9,3 +9,6 @@ pub mod Scattering
 pub mod Fetching
 pub mod Carrying
 pub mod Recovering
+pub mod Storing
+pub mod Repairing
+pub mod HelperPlaces

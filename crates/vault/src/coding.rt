@@ -40,13 +40,17 @@ pub fn store<F: Field, R: Rack>(
     })
 }
 
-// Refills the one node that is out from the places of the others that help.
-pub fn repair<F: Field, R: Rack>(
+// The steps of `repair`.
+fn repair_node<F: Field, R: Rack>(
     shape: Shape,
     rack: &mut R,
     node: usize,
     space: &mut [u16],
-) -> Result<Answer, Refusal> {
+) -> Result<Answer, Refusal>
+    ensures call { λ r. ⌜ Repair (F·Field .arith) (shape .q) (shape .t) (R·Rack .model (now (rack .entry))) node (length (now (space .entry))) r (R·Rack .model (now (rack .exit))) ⌝ }
+    ensures space { λ r. ⌜ Space (shape .q * shape .t * shape .q ^ shape .t) r (now (space .entry)) (now (space .exit)) ⌝ }
+    ensures stays { λ r. ⌜ R·Rack .kept (now (rack .entry)) (now (rack .exit)) ⌝ }
+{
     fits(shape, rack)?;
     roomy(shape, space)?;
     if node >= shape.nodes() {
@@ -65,6 +69,21 @@ pub fn repair<F: Field, R: Rack>(
         filled: 1,
         drawn: (shape.nodes() - 1) * shape.helper_places(),
     })
+}
+
+// Refills the one node that is out from the places of the others that help.
+pub fn repair<F: Field, R: Rack>(
+    shape: Shape,
+    rack: &mut R,
+    node: usize,
+    space: &mut [u16],
+) -> Result<Answer, Refusal>
+    ensures call { λ r. ⌜ Repair (F·Field .arith) (shape .q) (shape .t) (R·Rack .model (now (rack .entry))) node (length (now (space .entry))) r (R·Rack .model (now (rack .exit))) ⌝ }
+    ensures history { λ r. ⌜ RepairPromise (F·Field .arith) (shape .q) (shape .t) (R·Rack .model (now (rack .entry))) node (length (now (space .entry))) r (R·Rack .model (now (rack .exit))) ⌝ }
+    ensures space { λ r. ⌜ Space (shape .q * shape .t * shape .q ^ shape .t) r (now (space .entry)) (now (space .exit)) ⌝ }
+    ensures stays { λ r. ⌜ R·Rack .kept (now (rack .entry)) (now (rack .exit)) ⌝ }
+{
+    repair_node::<F, R>(shape, rack, node, space)
 }
 
 // The steps of `recover`.

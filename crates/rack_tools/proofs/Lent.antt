@@ -1,7 +1,7 @@
 -- What lent bytes hold once the rack over them is let go. Assumes nothing.
 use mathlib.Core.Path.{_≡_, refl, sym, ap, ap₂, subst, _∙_}
 use mathlib.Core.Bool.{Bool, true, false, cond, _&&_}
-use mathlib.Core.Logic.{inl, inr}
+use mathlib.Core.Logic.{inr}
 use mathlib.Core.List.{List}
 use Prim.Native.Nat.{ℕ, _+_, _*_, _≤_}
 use native.Mathlib.Omega.{arith}
@@ -13,7 +13,6 @@ use Rattle.std.specs.Results.{Cases}
 use Rattle.std.specs.declared.result.Result.{Result}
 use Rattle.std.specs.declared.result.Result.the-variants.{Ok, Err}
 use Rattle.refusal.specs.declared.reason.Refusal.{Refusal}
-use Rattle.refusal.specs.declared.reason.Refusal.the-variants.{NoSuchPlace, NodeOut}
 use Rattle.rack.specs.declared.image.ImageRack.{ImageRack}
 use Rattle.rack.specs.Model.{Model, fitting, done}
 use Rattle.rack.specs.Image.{image, image-model, record-length, opened, Formed, rooms-fit}

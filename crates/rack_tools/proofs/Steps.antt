@@ -1,18 +1,17 @@
 -- The steps of loops over the places of a node, over models alone. Assumes nothing.
 use mathlib.Core.Path.{_≡_, refl, sym, ap, fun-ext, _∙_}
-use mathlib.Core.Bool.{Bool, true, false, cond, _&&_}
+use mathlib.Core.Bool.{true, cond}
 use mathlib.Core.Logic.{⊎-elim}
-use mathlib.Core.List.{List}
-use Prim.Native.Nat.{ℕ, _+_, _%_, _^_, _<_, _≤_}
+use Prim.Native.Nat.{ℕ, _+_, _%_, _^_, _<_}
 use native.Mathlib.Numerals.{add-one}
 use native.Mathlib.Omega.{arith}
-use lib.Dec.{ltb, eqb}
+use lib.Dec.{ltb}
 use Rattle.std.proofs.shelf.Tests.{lt-ltb, le-ltb, cases-lt, cond-true, cond-false, both-ways}
 use Rattle.std.specs.declared.result.Result.the-variants.{Ok, Err}
 use Rattle.refusal.specs.declared.reason.Refusal.{Refusal}
-use Rattle.rack.specs.Model.{Model, changed, risen, with-word, with-flag, with-draw, within, done, got, after-get, after-put, after-flag}
-use Rattle.rack.proofs.Models.{same-model, is-changed, changed-same, changed-to-same, changed-twice, after-get-ok, after-put-ok, after-flag-ok, got-was-ok, got-was-err, is-within, done-was-err}
-use Rattle.rack_tools.specs.Filled.{with-words, with-draws, filled}
+use Rattle.rack.specs.Model.{Model, changed, risen, with-word, with-draw, within, done, got, after-get, after-put}
+use Rattle.rack.proofs.Models.{same-model, is-changed, changed-same, changed-to-same, changed-twice, after-get-ok, after-put-ok, got-was-ok, got-was-err, is-within, done-was-err}
+use Rattle.rack_tools.specs.Filled.{with-words, with-draws}
 
 -- no word written yet
 pub words-none : (m : Model) (i : ℕ) (f : ℕ → ℕ) → m ≡ with-words m i f 0

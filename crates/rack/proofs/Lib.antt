@@ -4,4 +4,5 @@ pub mod ImageCounts
 pub mod Images
 pub mod ImageCalls
 pub mod Encoding
+pub mod Pairs
 pub mod PairImages

@@ -2,11 +2,11 @@
 use mathlib.Core.Path.{_≡_, refl, sym, _∙_}
 use mathlib.Core.Logic.{⊎-elim}
 use mathlib.Core.Bool.{Bool, true, false, cond, _&&_}
-use Prim.Native.Nat.{ℕ, _+_, _-_, _*_, _^_, _≤_, _<_}
+use Prim.Native.Nat.{ℕ, _-_, _*_, _^_, _≤_, _<_}
 use native.Mathlib.Nat.{mul-le-mul, mul-le-mul-left, mul-le-mul-right, pow-le-pow-right}
 use native.Mathlib.Omega.{arith}
 use lib.Dec.{leb}
-use Rattle.std.proofs.shelf.Tests.{and-from, and-parts, both-ways, cases-bool, cond-true, leb-true, le-leb}
+use Rattle.std.proofs.shelf.Tests.{and-from, and-parts, cases-bool, cond-true, leb-true, le-leb}
 use Rattle.shape.specs.declared.dimensions.Shape.{Shape}
 use Rattle.shape.specs.Layout.{is-shape}
 use Rattle.shape.specs.Outages.{every}

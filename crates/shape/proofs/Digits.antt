@@ -1,7 +1,7 @@
 -- Digits of a place, and companions. Assumes nothing.
-use mathlib.Core.Path.{_≡_, refl, sym, ap, ap₂, _∙_}
+use mathlib.Core.Path.{_≡_, refl, sym, ap, _∙_}
 use mathlib.Core.Logic.{_≢_}
-use Prim.Native.Nat.{ℕ, zero, suc, _+_, _-_, _*_, _/_, _%_, _^_, _≤_, _<_}
+use Prim.Native.Nat.{ℕ, zero, suc, _+_, _*_, _/_, _%_, _^_, _≤_, _<_}
 use native.Mathlib.Nat.{pow-zero, pow-suc, pow-succ', pow-le-pow-left, pow-le-pow-right, div-one, div-eq-of-lt, zero-mod, div-div-eq-div-mul, div-add-mod', mod-lt, div-mul-le-self, mod-le, mul-le-mul-right, div-lt-iff-lt-mul}
 use native.Mathlib.Numerals.{add-one}
 use native.Mathlib.Omega.{arith}
@@ -51,10 +51,10 @@ module _ (q : ℕ) (pos : 0 < q) where
 
   pub digit-with-other : (p y x y′ : ℕ) → x < q → y ≢ y′ → digit q (with-digit q p y x) y′ ≡ digit q p y′
   digit-with-other p zero x zero h ne = absurd (ne refl)
-  digit-with-other p zero x (suc y′) h ne = rw (digit-suc, digit-suc, with-zero, digits-div (p / q) h)
-  digit-with-other p (suc y) x zero h ne = rw (digit-zero, digit-zero, with-suc) (digits-mod (with-digit q (p / q) y x) (mod-lt p pos))
+  digit-with-other p zero x (suc y′) h ne = rw (digit-suc (with-digit q p zero x) y′, digit-suc p y′, with-zero, digits-div (p / q) h)
+  digit-with-other p (suc y) x zero h ne = rw (digit-zero (with-digit q p (suc y) x), digit-zero p, with-suc) (digits-mod (with-digit q (p / q) y x) (mod-lt p pos))
   digit-with-other p (suc y) x (suc y′) h ne =
-      rw (digit-suc, digit-suc, with-suc, digits-div (with-digit q (p / q) y x) (mod-lt p pos)) (digit-with-other (p / q) y x y′ h (λ e. ne (ap suc e)))
+      rw (digit-suc (with-digit q p (suc y) x) y′, digit-suc p y′, with-suc, digits-div (with-digit q (p / q) y x) (mod-lt p pos)) (digit-with-other (p / q) y x y′ h (λ e. ne (ap suc e)))
 
   pub with-own : (p y : ℕ) → with-digit q p y (digit q p y) ≡ p
   with-own p y = let e = with-sum p y (digit q p y) in omega arith

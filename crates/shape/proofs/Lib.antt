@@ -5,4 +5,5 @@ pub mod Counts
 pub mod Digits
 pub mod Every
 pub mod Listed
+pub mod OutageLists
 pub mod Rising

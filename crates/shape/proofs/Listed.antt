@@ -1,14 +1,14 @@
 -- The list of the numbers that pass a test. Assumes nothing.
 use mathlib.Core.Path.{_≡_, refl, sym, ap, _∙_}
 use mathlib.Core.Logic.{⊎-elim}
-use mathlib.Core.Bool.{Bool, true, false, cond}
+use mathlib.Core.Bool.{Bool, true, false}
 use mathlib.Core.List.{List, [], _∷_, _++_}
 use Prim.Native.Nat.{ℕ, zero, suc, _+_, _-_, _≤_, _<_}
 use native.Mathlib.Numerals.{add-one}
 use native.Mathlib.Omega.{arith}
 use lib.ListN.{length}
 use Rattle.std.proofs.shelf.Lists.{append-nil, length-push}
-use Rattle.std.proofs.shelf.Tests.{both-ways, cases-bool, cases-eq, cases-lt, cond-true, cond-false, false≢true}
+use Rattle.std.proofs.shelf.Tests.{cases-bool, cases-eq, cases-lt, cond-true, cond-false, false≢true}
 use Rattle.shape.specs.Outages.{count, listed, rising, among}
 use Rattle.shape.proofs.Among.{among-first, among-rest, among-push-same, among-push-other}
 use Rattle.shape.proofs.Rising.{rising-below, rising-none, rising-wider, rising-rest, rising-least, rising-distinct, rising-high, rising-push}

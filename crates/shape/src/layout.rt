@@ -13,7 +13,8 @@ impl Shape {
     pub fn new(q: usize, t: usize) -> Result<Shape, Refusal>
         ensures { λ r. ⌜ Cases r (λ s. (is-shape q t ≡ true) × (s .q ≡ q) × (s .t ≡ t)) (λ e. (is-shape q t ≡ false) × (e ≡ reason.Shape)) ⌝ }
     {
-        if q < 2 || t < 2 || q > 8 || t > 8 || q * t > 16 {
+        let nodes = q.saturating_mul(t);
+        if q < 2 || t < 2 || nodes > 16 {
             return Err(Refusal::Shape);
         }
         Ok(Shape { q, t })

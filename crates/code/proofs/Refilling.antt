@@ -19,8 +19,8 @@ use Rattle.shape.proofs.Bounds.{Shaped, rows-positive}
 use Rattle.shape.proofs.Digits.{row-bound, node-own, row-companion, column-companion, digit-companion, companion-bound, companion-place-bound, with-own}
 use Rattle.shape.proofs.Every.{every-at}
 use Rattle.shape.proofs.Rising.{rising-count}
-use Rattle.code.specs.Calls.{helps, good-help, helper-codes, with-node, Refills, OnlyRefill, Others}
-use Rattle.code.specs.Code.{Words, laid, minus, moment, uncoupled, check, elements}
+use Rattle.code.specs.Calls.{good-help, helper-codes, Others}
+use Rattle.code.specs.Code.{Words, laid, minus, moment, uncoupled, check, elements, helps, with-node, Refills, OnlyRefill}
 use Rattle.code.specs.Filling.{in-column, known, solution, solved-by, refill}
 use Rattle.code.specs.Reading.{read, symbols}
 use Rattle.code.specs.Steps.{Run, Wrote, lacks, Refilled-to}
@@ -195,19 +195,19 @@ module _ {E : Type 0} (f : Arith E) (laws : Laws f) {q t : ℕ} (s : Shaped q t)
     helper-code i p li lp h ne =
         let row-good = every-at (λ j. cond (eqb j lost) true (helper-codes f q t (laid (q ^ t) before) lost j)) (q * t) good i li in
         let here = sym (cond-false (eqb i lost) true (helper-codes f q t (laid (q ^ t) before) lost i) (ne-eqb i lost ne)) ∙ row-good in
-        let word = every-at (λ r. cond (helps f q t lost r) (ltb (laid (q ^ t) before i r) (f .size)) true) (q ^ t) here p lp in
-        ltb-true (laid (q ^ t) before i p) (f .size) (sym (cond-true (helps f q t lost p) (ltb (laid (q ^ t) before i p) (f .size)) true (eq-eqb (digit q p (column q lost)) (row q lost) h)) ∙ word)
+        let word = every-at (λ r. cond (helps q lost r) (ltb (laid (q ^ t) before i r) (f .size)) true) (q ^ t) here p lp in
+        ltb-true (laid (q ^ t) before i p) (f .size) (sym (cond-true (helps q lost p) (ltb (laid (q ^ t) before i p) (f .size)) true (eq-eqb (digit q p (column q lost)) (row q lost) h)) ∙ word)
 
-    other : (c : ℕ → ℕ) (i p : ℕ) → i ≢ lost → elements f (with-node f q t w lost c) i p ≡ f .of (w i p)
-    other c i p ne = ap (f .of) (cond-false (eqb i lost) (c p) (w i p) (ne-eqb i lost ne))
+    other : (c : ℕ → ℕ) (i p : ℕ) → i ≢ lost → elements f (with-node w lost c) i p ≡ f .of (w i p)
+    other c i p ne = ap (λ r. f .of (r p)) (cond-false (eqb i lost) c (w i) (ne-eqb i lost ne))
 
-    own : (c : ℕ → ℕ) (p : ℕ) → with-node f q t w lost c lost p ≡ c p
-    own c p = cond-true (eqb lost lost) (c p) (w lost p) (eq-eqb lost lost refl)
+    own : (c : ℕ → ℕ) (p : ℕ) → with-node w lost c lost p ≡ c p
+    own c p = ap (λ r. r p) (cond-true (eqb lost lost) c (w lost) (eq-eqb lost lost refl))
 
     c : ℕ → ℕ
     c = laid (q ^ t) after lost
 
-    made : (p : ℕ) → p < q ^ t → elements f (with-node f q t w lost c) lost p ≡ refill f q t (among nodes) lost A p
+    made : (p : ℕ) → p < q ^ t → elements f (with-node w lost c) lost p ≡ refill f q t (among nodes) lost A p
     unfolding c A
     made p lp = ap (f .of) (own (laid (q ^ t) after lost) p) ∙ sym (read-code f (laid (q ^ t) after lost p) (filled .codes p lp lp)) ∙ filled .made p lp lp
 
@@ -220,10 +220,10 @@ module _ {E : Type 0} (f : Arith E) (laws : Laws f) {q t : ℕ} (s : Shaped q t)
         (λ i li. ap (λ b. cond b (solution f q t (among nodes) A i p) (uncoupled f q A i p)) (sym (as-column i)))
         ∙ solution-solves f laws q t pos (among nodes) (s .few) A p q (omega arith) e le
 
-    checks : (p e : ℕ) → p < q ^ t → e < q → digit q p (column q lost) ≡ row q lost → check f q t (elements f (with-node f q t w lost c)) p e ≡ f .zero
+    checks : (p e : ℕ) → p < q ^ t → e < q → digit q p (column q lost) ≡ row q lost → check f q t (elements f (with-node w lost c)) p e ≡ f .zero
     unfolding w A
     checks =
-        repaired-by f laws q t pos (s .few) lost within A (solution f q t (among nodes) A) (elements f (with-node f q t w lost c)) (λ p lp h. solves p)
+        repaired-by f laws q t pos (s .few) lost within A (solution f q t (among nodes) A) (elements f (with-node w lost c)) (λ p lp h. solves p)
         (λ i p li lp h ne. other c i p ne ∙ sym (read-code f (w i p) (helper-code i p li lp h ne)))
         (λ p lp h. made p lp ∙ refill-own A p h) (λ p lp h. made p lp ∙ refill-pair A p h)
 
@@ -237,7 +237,7 @@ module _ {E : Type 0} (f : Arith E) (laws : Laws f) {q t : ℕ} (s : Shaped q t)
       only = λ d fills p lp.
           same-word f laws (d p) (c p) (subst (λ v. v < f .size) (own d p) (fills .codes p lp)) (filled .codes p lp lp)
           (sym (ap (f .of) (own d p))
-          ∙ repair-only-one f laws q t pos (s .few) lost within (elements f (with-node f q t w lost d)) (elements f (with-node f q t w lost c))
+          ∙ repair-only-one f laws q t pos (s .few) lost within (elements f (with-node w lost d)) (elements f (with-node w lost c))
           (λ r e lr le h. fills .checks r e lr le (eq-eqb (digit q r (column q lost)) (row q lost) h)) checks (λ i r li lr h ne. other d i r ne ∙ sym (other c i r ne)) p lp
           ∙ ap (f .of) (own c p));
     }

@@ -80,7 +80,7 @@ module _ {E : Type 0} (f : Arith E) where
   pub record Refilled-to (q t : ℕ) (erased : ℕ → Bool) (node below : ℕ) (before after : List ℕ) : Type 0 where
     pub made : (p : ℕ) → p < q ^ t → p < below → symbols f (q ^ t) after node p ≡ refill f q t erased node (symbols f (q ^ t) before) p
     pub codes : (p : ℕ) → p < q ^ t → p < below → laid (q ^ t) after node p < f .size
-    pub others : Others f q t node before after
+    pub others : Others q t node before after
 
   -- the erased nodes being those of its column
   pub record NodeRefilled (q t node : ℕ) (before after : List ℕ) : Type 0 where

@@ -20,7 +20,7 @@ use Rattle.shape.proofs.Digits.{row-bound, node-own, row-companion, column-comp
 use Rattle.shape.proofs.Every.{every-at}
 use Rattle.shape.proofs.Rising.{rising-count}
 use Rattle.code.specs.Calls.{good-help, helper-codes, Others}
-use Rattle.code.specs.Code.{Words, laid, minus, moment, uncoupled, check, elements, helps, with-node, Refills, OnlyRefill}
+use Rattle.code.specs.Code.{Words, laid, minus, moment, uncoupled, check, elements, helps, with-node, Refills, OnlyRefill, SameHelp}
 use Rattle.code.specs.Filling.{in-column, known, solution, solved-by, refill}
 use Rattle.code.specs.Reading.{read, symbols}
 use Rattle.code.specs.Steps.{Run, Wrote, lacks, Refilled-to}
@@ -184,9 +184,6 @@ module _ {E : Type 0} (f : Arith E) (laws : Laws f) {q t : ℕ} (s : Shaped q t)
 
   -- the result
   module _ (rises : rising (q * t) nodes ≡ true) (before after : List ℕ) (good : good-help f q t (laid (q ^ t) before) lost ≡ true) (filled : Refilled-to f q t (among nodes) lost (q ^ t) before after) where
-    w : Words
-    w = laid (q ^ t) before
-
     A : ℕ → ℕ → E
     A = symbols f (q ^ t) before
 
@@ -198,18 +195,8 @@ module _ {E : Type 0} (f : Arith E) (laws : Laws f) {q t : ℕ} (s : Shaped q t)
         let word = every-at (λ r. cond (helps q lost r) (ltb (laid (q ^ t) before i r) (f .size)) true) (q ^ t) here p lp in
         ltb-true (laid (q ^ t) before i p) (f .size) (sym (cond-true (helps q lost p) (ltb (laid (q ^ t) before i p) (f .size)) true (eq-eqb (digit q p (column q lost)) (row q lost) h)) ∙ word)
 
-    other : (c : ℕ → ℕ) (i p : ℕ) → i ≢ lost → elements f (with-node w lost c) i p ≡ f .of (w i p)
-    other c i p ne = ap (λ r. f .of (r p)) (cond-false (eqb i lost) c (w i) (ne-eqb i lost ne))
-
-    own : (c : ℕ → ℕ) (p : ℕ) → with-node w lost c lost p ≡ c p
-    own c p = ap (λ r. r p) (cond-true (eqb lost lost) c (w lost) (eq-eqb lost lost refl))
-
     c : ℕ → ℕ
     c = laid (q ^ t) after lost
-
-    made : (p : ℕ) → p < q ^ t → elements f (with-node w lost c) lost p ≡ refill f q t (among nodes) lost A p
-    unfolding c A
-    made p lp = ap (f .of) (own (laid (q ^ t) after lost) p) ∙ sym (read-code f (laid (q ^ t) after lost p) (filled .codes p lp lp)) ∙ filled .made p lp lp
 
     solves : (p : ℕ) → Solves f laws q t pos (in-column q (column q lost)) q A (solution f q t (among nodes) A) p
     solves p e le =
@@ -220,24 +207,40 @@ module _ {E : Type 0} (f : Arith E) (laws : Laws f) {q t : ℕ} (s : Shaped q t)
         (λ i li. ap (λ b. cond b (solution f q t (among nodes) A i p) (uncoupled f q A i p)) (sym (as-column i)))
         ∙ solution-solves f laws q t pos (among nodes) (s .few) A p q (omega arith) e le
 
-    checks : (p e : ℕ) → p < q ^ t → e < q → digit q p (column q lost) ≡ row q lost → check f q t (elements f (with-node w lost c)) p e ≡ f .zero
-    unfolding w A
-    checks =
-        repaired-by f laws q t pos (s .few) lost within A (solution f q t (among nodes) A) (elements f (with-node w lost c)) (λ p lp h. solves p)
-        (λ i p li lp h ne. other c i p ne ∙ sym (read-code f (w i p) (helper-code i p li lp h ne)))
-        (λ p lp h. made p lp ∙ refill-own A p h) (λ p lp h. made p lp ∙ refill-pair A p h)
+    -- in any array with the same helper words
+    module _ (v : Words) (same : SameHelp f q t lost v (laid (q ^ t) before)) where
+      other : (d : ℕ → ℕ) (i p : ℕ) → i ≢ lost → elements f (with-node v lost d) i p ≡ f .of (v i p)
+      other d i p ne = ap (λ r. f .of (r p)) (cond-false (eqb i lost) d (v i) (ne-eqb i lost ne))
 
-    pub only-refill : OnlyRefill f q t (laid (q ^ t) before) lost (laid (q ^ t) after lost)
-    unfolding w c
-    only-refill = record {
-      refills = record {
-        codes = λ p lp. subst (λ v. v < f .size) (sym (own c p)) (filled .codes p lp lp);
-        checks = λ p e lp le h. checks p e lp le (eqb-true (digit q p (column q lost)) (row q lost) h);
-      };
-      only = λ d fills p lp.
-          same-word f laws (d p) (c p) (subst (λ v. v < f .size) (own d p) (fills .codes p lp)) (filled .codes p lp lp)
-          (sym (ap (f .of) (own d p))
-          ∙ repair-only-one f laws q t pos (s .few) lost within (elements f (with-node w lost d)) (elements f (with-node w lost c))
-          (λ r e lr le h. fills .checks r e lr le (eq-eqb (digit q r (column q lost)) (row q lost) h)) checks (λ i r li lr h ne. other d i r ne ∙ sym (other c i r ne)) p lp
-          ∙ ap (f .of) (own c p));
-    }
+      own : (d : ℕ → ℕ) (p : ℕ) → with-node v lost d lost p ≡ d p
+      own d p = ap (λ r. r p) (cond-true (eqb lost lost) d (v lost) (eq-eqb lost lost refl))
+
+      made : (p : ℕ) → p < q ^ t → elements f (with-node v lost c) lost p ≡ refill f q t (among nodes) lost A p
+      unfolding c A
+      made p lp = ap (f .of) (own (laid (q ^ t) after lost) p) ∙ sym (read-code f (laid (q ^ t) after lost p) (filled .codes p lp lp)) ∙ filled .made p lp lp
+
+      helper : (i p : ℕ) → i < q * t → p < q ^ t → digit q p (column q lost) ≡ row q lost → i ≢ lost → f .of (v i p) ≡ A i p
+      unfolding A
+      helper i p li lp h ne =
+          ap (f .of) (same i p li lp (eq-eqb (digit q p (column q lost)) (row q lost) h) ne) ∙ sym (read-code f (laid (q ^ t) before i p) (helper-code i p li lp h ne))
+
+      checks : (p e : ℕ) → p < q ^ t → e < q → digit q p (column q lost) ≡ row q lost → check f q t (elements f (with-node v lost c)) p e ≡ f .zero
+      checks =
+          repaired-by f laws q t pos (s .few) lost within A (solution f q t (among nodes) A) (elements f (with-node v lost c)) (λ p lp h. solves p)
+          (λ i p li lp h ne. other c i p ne ∙ helper i p li lp h ne)
+          (λ p lp h. made p lp ∙ refill-own A p h) (λ p lp h. made p lp ∙ refill-pair A p h)
+
+      pub only-refill : OnlyRefill f q t v lost (laid (q ^ t) after lost)
+      unfolding c
+      only-refill = record {
+        refills = record {
+          codes = λ p lp. subst (λ u. u < f .size) (sym (own c p)) (filled .codes p lp lp);
+          checks = λ p e lp le h. checks p e lp le (eqb-true (digit q p (column q lost)) (row q lost) h);
+        };
+        only = λ d fills p lp.
+            same-word f laws (d p) (c p) (subst (λ u. u < f .size) (own d p) (fills .codes p lp)) (filled .codes p lp lp)
+            (sym (ap (f .of) (own d p))
+            ∙ repair-only-one f laws q t pos (s .few) lost within (elements f (with-node v lost d)) (elements f (with-node v lost c))
+            (λ r e lr le h. fills .checks r e lr le (eq-eqb (digit q r (column q lost)) (row q lost) h)) checks (λ i r li lr h ne. other d i r ne ∙ sym (other c i r ne)) p lp
+            ∙ ap (f .of) (own c p));
+      }

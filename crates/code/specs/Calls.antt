@@ -11,7 +11,7 @@ use Rattle.refusal.specs.First.{first}
 use Rattle.refusal.specs.declared.reason.Refusal.{Refusal}
 use Rattle.refusal.specs.declared.reason.Refusal.the-variants.{MessageLength, WorkSpace, NoCode, NoSuchPlace, TooManyOut, BadWord, NoCodeword}
 use Rattle.shape.specs.Outages.{every, among}
-use Rattle.code.specs.Code.{Words, laid, helps, Codeword, Agrees, OnlyAgrees, Encodes, OnlyRefill}
+use Rattle.code.specs.Code.{Words, laid, helps, Codeword, Agrees, OnlyAgrees, Encodes, SameHelp, OnlyRefill}
 use Rattle.code.specs.Solving.{points, Codes}
 use Rattle.code.specs.Theorems.{Solves}
 use Rattle.std.specs.declared.option.Option.{Option}
@@ -113,7 +113,11 @@ module _ {E : Type 0} (f : Arith E) (q t : ℕ) where
   abbrev pub rebuild-refusal : (i : ℕ) (ws : List ℕ) → Option Refusal
   rebuild-refusal i ws = first (short q t ws) WorkSpace (first (not (ltb i (q * t))) NoSuchPlace (first (not (good-help (laid (q ^ t) ws) i)) BadWord None))
 
+  -- the refill of node i, whatever the array holds but for the words that help
+  abbrev pub HelpRefill : Words → ℕ → (ℕ → ℕ) → Type 0
+  HelpRefill w i c = (v : Words) → SameHelp f q t i v w → OnlyRefill f q t v i c
+
   abbrev pub Rebuilt : {X : Type 0} → (i : ℕ) (before : List ℕ) → Result X Refusal → List ℕ → Type 0
   Rebuilt i before (Ok x) after =
-      (rebuild-refusal i before ≡ None) × OnlyRefill f q t (laid (q ^ t) before) i (laid (q ^ t) after i) × Others q t i before after
+      (rebuild-refusal i before ≡ None) × HelpRefill (laid (q ^ t) before) i (laid (q ^ t) after i) × Others q t i before after
   Rebuilt i before (Err e) after = (rebuild-refusal i before ≡ Some e) × (after ≡ before)

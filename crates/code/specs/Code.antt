@@ -1,5 +1,6 @@
 -- The coupled-layer code over a field. Assumes nothing.
 use mathlib.Core.Path.{_≡_}
+use mathlib.Core.Logic.{_≢_}
 use mathlib.Core.Bool.{Bool, true, cond}
 use mathlib.Core.List.{List}
 use Prim.Native.Nat.{ℕ, zero, suc, _+_, _-_, _*_, _^_, _<_}
@@ -94,6 +95,10 @@ module _ {E : Type 0} (f : Arith E) (q t : ℕ) where
     pub codeword : Codeword w
     pub carries : Carries w message
     pub only : (v : Words) → Codeword v → Carries v message → Same v w
+
+  -- the same words in the other nodes, at the places that help node i
+  abbrev pub SameHelp : ℕ → Words → Words → Type 0
+  SameHelp i w v = (j p : ℕ) → j < q * t → p < q ^ t → helps q i p ≡ true → j ≢ i → w j p ≡ v j p
 
   -- the words of node i are codes with which the checks of the planes that help it hold
   pub record Refills (w : Words) (i : ℕ) : Type 0 where

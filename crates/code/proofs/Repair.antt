@@ -138,7 +138,7 @@ module _ {E : Type 0} (f : Arith E) (laws : Laws f) (q t : ℕ) (pos : 0 < q) (f
       (λ i p li lp r ne. minus-self f laws (A i p) (A′ i p) (agree i p li lp r ne)) p lp)
 
   -- the companion of a node of the column, in a plane that is read
-  companion-lost : (i p : ℕ) → column q i ≡ column q lost → Helps q lost p → companion-node q i p ≡ lost
+  pub companion-lost : (i p : ℕ) → column q i ≡ column q lost → Helps q lost p → companion-node q i p ≡ lost
   unfolding companion-node
   companion-lost i p k r = ap₂ (node-at q) (ap (digit q p) k ∙ r) k ∙ node-own q pos lost
 

@@ -1,6 +1,6 @@
-use borrow.Author.Needs.{needs}
+use mathlib.Core.Path.{refl}
+use Rattle.worked.proofs.Rows.{table-holds}
 use Rattle.worked.proofs.examples_hold.Needs as need
 
--- src/lib.rt:7:1
 pub returns : need.returns
-returns c = ?
+returns c = record { number = refl; hold = table-holds }

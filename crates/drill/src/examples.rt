@@ -1,5 +1,5 @@
 // Examples of a vault of two rows and two columns over the byte field, on any rack.
-use crate::told::told;
+use crate::told::add_line;
 use field::ByteField;
 use field::ByteFieldField;
 use rack::Rack;
@@ -58,15 +58,29 @@ pub fn examples<R: Rack + Drop>(
     heap: Global,
     vault: &mut Vault<ByteField, R>,
 ) -> Result<String, AllocError> {
+    let mut out = String::new(heap);
     let mut space = [0u16; 16];
     let mut message = [0u16; 8];
-    let altered = told(heap, recover_altered(vault, &mut space))?;
-    let read = told(heap, vault.read(0, &mut message))?;
-    let three = told(heap, recover_without(vault, 3, &mut space))?;
-    let two = told(heap, repair_without(vault, 2, &mut space))?;
-    let none = told(heap, recover_without(vault, 0, &mut space))?;
-    format!(
+    let answer = recover_altered(vault, &mut space);
+    add_line(
+        &mut out,
         heap,
-        "node 3 place 0 altered, nodes 0 and 1 out: recover: {altered}\nthe message then read: {read}: {message:?}\nnodes 0, 1 and 2 out: recover: {three}\nnodes 0 and 1 out: repair of node 0: {two}\nnone out: recover: {none}\n"
-    )
+        "node 3 place 0 altered, nodes 0 and 1 out: recover",
+        answer,
+    )?;
+    let answer = vault.read(0, &mut message);
+    let called = format!(heap, "read of {message:?}")?;
+    add_line(&mut out, heap, called.as_str(), answer)?;
+    let answer = recover_without(vault, 3, &mut space);
+    add_line(&mut out, heap, "nodes 0, 1 and 2 out: recover", answer)?;
+    let answer = repair_without(vault, 2, &mut space);
+    add_line(
+        &mut out,
+        heap,
+        "nodes 0 and 1 out: repair of node 0",
+        answer,
+    )?;
+    let answer = recover_without(vault, 0, &mut space);
+    add_line(&mut out, heap, "none out: recover", answer)?;
+    Ok(out)
 }

@@ -15,6 +15,18 @@ pub fn told(heap: Global, answer: Result<Answer, Refusal>) -> Result<String, All
     }
 }
 
+// Adds a line: what was called, and what it answered.
+pub fn add_line(
+    out: &mut String,
+    heap: Global,
+    called: &str,
+    answer: Result<Answer, Refusal>,
+) -> Result<(), AllocError> {
+    let words = told(heap, answer)?;
+    let line = format!(heap, "{called}: {words}\n")?;
+    out.push_str(line.as_str())
+}
+
 // The number of a refusal, and where an image is malformed.
 pub fn refused(heap: Global, why: Refusal) -> Result<String, AllocError> {
     let number = why.number();

@@ -15,8 +15,8 @@ use Rattle.shape.specs.Outages.{every, among, rising}
 use Rattle.shape.proofs.Bounds.{Shaped, rows-positive}
 use Rattle.shape.proofs.Every.{every-from}
 use Rattle.shape.proofs.Rising.{rising-count}
-use Rattle.code.specs.Calls.{Rest, standing, good-standing, restore-refusal, encode-refusal, Agrees, OnlyAgrees, NoneAgrees, Restored, Encodes, Encoded}
-use Rattle.code.specs.Code.{Words, laid, Checks, elements, Codeword, Carries}
+use Rattle.code.specs.Calls.{Rest, standing, good-standing, restore-refusal, encode-refusal, NoneAgrees, Restored, Encoded}
+use Rattle.code.specs.Code.{Words, laid, Checks, elements, Codeword, Carries, Agrees, OnlyAgrees, Encodes}
 use Rattle.code.specs.Solving.{Codes, Kept-from}
 use Rattle.code.specs.Steps.{Run}
 use Rattle.code.proofs.Arrays.{checks-same}
@@ -51,7 +51,7 @@ module _ {E : Type 0} (f : Arith E) (laws : Laws f) {q t : ℕ} (s : Shaped q t)
   carried-code i p li lp =
       subst (λ v. v < f .size) (sym (carried i p li lp)) (codes (i * q ^ t + p) (let l = spot-within (q * (t - 1)) (q ^ t) i p li lp in omega arith))
 
-  good : good-standing f q t (standing f q t nodes) (laid (q ^ t) copied) ≡ true
+  good : good-standing f q t (standing nodes) (laid (q ^ t) copied) ≡ true
   good = every-from (λ j. cond (not (among nodes j)) (every (λ r. ltb (laid (q ^ t) copied j r) (f .size)) (q ^ t)) true) (q * t) (λ i li. go i li (cases-bool (among nodes i)))
     where
       go : (i : ℕ) → i < q * t → (among nodes i ≡ true) ⊎ (among nodes i ≡ false) → cond (not (among nodes i)) (every (λ r. ltb (laid (q ^ t) copied i r) (f .size)) (q ^ t)) true ≡ true
@@ -65,7 +65,7 @@ module _ {E : Type 0} (f : Arith E) (laws : Laws f) {q t : ℕ} (s : Shaped q t)
   rest after r = r ∙ rest-kept (q * t * q ^ t) before copied same-length (λ k l. kept k (let m = message-within s in omega arith))
 
   -- some codeword carries the message
-  some-codeword : (w : Words) × Agrees f q t (standing f q t nodes) (laid (q ^ t) copied) w
+  some-codeword : (w : Words) × Agrees f q t (standing nodes) (laid (q ^ t) copied) w
   some-codeword =
       let n = rising-count (q * t) nodes rises in
       let m = run .0 in
@@ -81,7 +81,7 @@ module _ {E : Type 0} (f : Arith E) (laws : Laws f) {q t : ℕ} (s : Shaped q t)
         },
       )
 
-  accepts : restore-refusal f q t (q * t) nodes copied ≡ None
+  accepts : restore-refusal q t (q * t) nodes copied ≡ None
   accepts = let m = run .0 in refusal-none f q t (q * t) nodes copied (omega arith) refl (omega arith)
 
   -- so the parity nodes are never refused, and what comes is the message's codeword
@@ -101,8 +101,8 @@ module _ {E : Type 0} (f : Arith E) (laws : Laws f) {q t : ℕ} (s : Shaped q t)
     rest after rests,
   )
   encoded count is none (Err e) after h =
-      let P : Option Refusal → Type 0 = λ o. elim o [ Some r ↦ (e ≡ r) × (after ≡ copied) | None ↦ NoneAgrees f q t (standing f q t nodes) (laid (q ^ t) copied) e × Rest (q * t * q ^ t) copied after ] in
-      let Q : Bool → Type 0 = λ b. elim b [ true ↦ (e ≡ NoCodeword) × ((w : Words) → Agrees f q t (standing f q t nodes) (laid (q ^ t) copied) w → ⊥) | false ↦ e ≡ BadWord ] in
-      let none-agrees : P None = subst P (ap (λ k. restore-refusal f q t k nodes copied) is ∙ accepts) h in
+      let P : Option Refusal → Type 0 = λ o. elim o [ Some r ↦ (e ≡ r) × (after ≡ copied) | None ↦ NoneAgrees f q t (standing nodes) (laid (q ^ t) copied) e × Rest (q * t * q ^ t) copied after ] in
+      let Q : Bool → Type 0 = λ b. elim b [ true ↦ (e ≡ NoCodeword) × ((w : Words) → Agrees f q t (standing nodes) (laid (q ^ t) copied) w → ⊥) | false ↦ e ≡ BadWord ] in
+      let none-agrees : P None = subst P (ap (λ k. restore-refusal q t k nodes copied) is ∙ accepts) h in
       let no : Q true = subst Q good (none-agrees .0) in
       absurd (no .1 (some-codeword .0) (some-codeword .1))

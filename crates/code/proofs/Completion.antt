@@ -9,7 +9,7 @@ use Rattle.std.proofs.shelf.Tests.{cases-eq, cases-bool, both-ways, eq-eqb, ne-
 use Rattle.field.specs.Field.{Arith, Laws}
 use Rattle.shape.specs.Layout.{digit, row, column, companion-node, companion-place}
 use Rattle.shape.specs.Outages.{count}
-use Rattle.code.specs.Filling.{score, of-pair, turn, known, solution, step, complete}
+use Rattle.code.specs.Filling.{score, of-pair, turn, known, solution}
 use Rattle.code.specs.Code.{moment, uncoupled, Checks}
 use Rattle.shape.proofs.Digits.{companion-bound, companion-place-bound, companion-back, companion-place-back}
 use Rattle.code.proofs.Ring.{minus, zero-sum, minus-back, neg-sum}
@@ -18,6 +18,17 @@ use Rattle.code.proofs.Scores.{score-lower, score-equal, score-bound}
 use Rattle.code.proofs.Vandermonde.{solved}
 use Rattle.code.proofs.Uncoupling.{pair-back, uncoupled-own, uncoupled-pair, uncoupled-same, companion-apart}
 use Rattle.code.proofs.OnlyOne.{nodes-apart}
+
+module _ {E : Type 0} (f : Arith E) where
+  -- the planes of score s, filled
+  step : (q t : ℕ) (erased : ℕ → Bool) (s : ℕ) (A : ℕ → ℕ → E) (i p : ℕ) → E
+  step q t erased s A i p =
+      cond (erased i) (cond (eqb (score q t erased p) s) (turn f q erased A (solution f q t erased A) i p) (A i p)) (A i p)
+
+  -- the planes of score below s, filled with rising score
+  complete : (q t : ℕ) (erased : ℕ → Bool) (s : ℕ) (A : ℕ → ℕ → E) (i p : ℕ) → E
+  complete q t erased zero A = A
+  complete q t erased (suc s) A = step q t erased s (complete q t erased s A)
 
 module _ {E : Type 0} (f : Arith E) (laws : Laws f) (q t : ℕ) (pos : 0 < q) (S : ℕ → Bool) where
   open Arith f using (sum as _⊕_, product as _⊗_, negative as ⊖_, zero as 𝟎, coupling as u)
@@ -186,7 +197,7 @@ module _ {E : Type 0} (f : Arith E) (laws : Laws f) (q t : ℕ) (pos : 0 < q) (S
         done-more m s (complete f q t S s A) (solution f q t S (complete f q t S s A)) (complete f q t S (suc s) A) (complete-done m s A enough)
         (λ p lp k. solution-solves (complete f q t S s A) p m enough) (step-turned s (complete f q t S s A))
 
-    pub complete-kept : (s : ℕ) (A : ℕ → ℕ → E) (i p : ℕ) → i < q * t → p < q ^ t → S i ≡ false → complete f q t S s A i p ≡ A i p
+    complete-kept : (s : ℕ) (A : ℕ → ℕ → E) (i p : ℕ) → i < q * t → p < q ^ t → S i ≡ false → complete f q t S s A i p ≡ A i p
     unfolding complete
     complete-kept zero A i p li lp x = refl
     complete-kept (suc s) A i p li lp x = step-turned s (complete f q t S s A) .kept i p li lp (inl x) ∙ complete-kept s A i p li lp x

@@ -16,22 +16,23 @@ use Rattle.shape.specs.Layout.{row, column, digit, with-digit, node-at, compani
 use Rattle.shape.specs.Outages.{every, among, rising}
 use Rattle.shape.proofs.Among.{among-found}
 use Rattle.shape.proofs.Bounds.{Shaped, rows-positive}
-use Rattle.shape.proofs.Digits.{row-bound, node-own, row-companion, column-companion, digit-companion, companion-bound, companion-place-bound, with-own}
+use Rattle.shape.proofs.Digits.{digit-bound, row-bound, column-bound, node-bound, column-node, node-own, companion-back, companion-place-back, row-companion, column-companion, digit-companion, companion-bound, companion-place-bound, with-own}
 use Rattle.shape.proofs.Every.{every-at}
 use Rattle.shape.proofs.Rising.{rising-count}
-use Rattle.code.specs.Calls.{helps, good-help, helper-codes, with-node, Refills, OnlyRefill, Others}
-use Rattle.code.specs.Code.{Words, laid, minus, moment, uncoupled, check, elements}
+use Rattle.code.specs.Calls.{good-help, helper-codes, Others}
+use Rattle.code.specs.Code.{Words, laid, minus, moment, uncoupled, check, elements, helps, with-node, Refills, OnlyRefill, SameHelp}
 use Rattle.code.specs.Filling.{in-column, known, solution, solved-by, refill}
 use Rattle.code.specs.Reading.{read, symbols}
-use Rattle.code.specs.Steps.{Run, Wrote, lacks, Refilled-to}
+use Rattle.code.specs.Steps.{Run, lacks, Refilled-where, given, PlaneRefilled}
+use Rattle.code.specs.Theorems.{Helps}
 use Rattle.code.proofs.Completion.{Solves, solution-solves}
 use Rattle.code.proofs.Places.{spot-within}
-use Rattle.code.proofs.Repair.{repaired-by, repair-only-one}
+use Rattle.code.proofs.Repair.{companion-lost, repaired-by, repair-only-one}
 use Rattle.code.proofs.Runs.{run-in}
 use Rattle.code.proofs.Solutions.{same-word}
 use Rattle.code.proofs.Sums.{moment-same}
 use Rattle.code.proofs.Uncoupling.{uncoupled-same}
-use Rattle.code.proofs.Words.{read-code}
+use Rattle.code.proofs.Words.{read-code, read-written}
 
 module _ {E : Type 0} (f : Arith E) (laws : Laws f) {q t : ℕ} (s : Shaped q t) (lost : ℕ) (within : lost < q * t) (nodes : List ℕ) (run : Run (column q lost * q) nodes q) where
   pos : 0 < q
@@ -119,11 +120,9 @@ module _ {E : Type 0} (f : Arith E) (laws : Laws f) {q t : ℕ} (s : Shaped q t)
           (same c d (companion-bound q pos lost p t within) ld (λ e. ne (sym (row-companion q pos lost p) ∙ ap (row q) e)))
           ∙ sym (refill-pair A′ p ne)
 
-  -- what the code computes: the companion's solution
-  pub listed-companion : (p : ℕ) → getD nodes (row q (companion-node q lost p)) 0 ≡ companion-node q lost p
-  listed-companion p =
-      let o : column q (companion-node q lost p) * q + row q (companion-node q lost p) ≡ companion-node q lost p = (unfold node-at in node-own q pos (companion-node q lost p)) in
-      run .1 (row q (companion-node q lost p)) (row-bound q pos (companion-node q lost p)) ∙ ap (λ y. y * q + row q (companion-node q lost p)) (sym (column-companion q pos lost p)) ∙ o
+  companion-at : (p k : ℕ) → digit q p (column q lost) ≡ k → companion-node q lost p ≡ node-at q k (column q lost)
+  unfolding companion-node
+  companion-at p k e = ap (λ x. node-at q x (column q lost)) e
 
   pub companion-own : (p : ℕ) → companion-node q lost p ≡ lost → (digit q p (column q lost) ≡ row q lost) × (companion-place q lost p ≡ p)
   unfolding companion-place
@@ -135,58 +134,157 @@ module _ {E : Type 0} (f : Arith E) (laws : Laws f) {q t : ℕ} (s : Shaped q t)
   unfolding companion-node
   companion-not p ne e = ne (ap (λ x. node-at q x (column q lost)) e ∙ node-own q pos lost)
 
-  -- the loop
-  pub refilled-none : (before : List ℕ) → Refilled-to f q t (among nodes) lost 0 before before
-  refilled-none before = record { made = λ p lp l. absurd (omega arith); codes = λ p lp l. absurd (omega arith); others = λ k h. refl }
+  -- words of the other nodes are outside the lost node's
+  elsewhere : (i : ℕ) → i ≢ lost → (p : ℕ) → p < q ^ t → (i * q ^ t + p < lost * q ^ t) ⊎ (lost * q ^ t + q ^ t ≤ i * q ^ t + p)
+  elsewhere i ne p lp = ⊎-elim (λ l. inl (spot-within lost (q ^ t) i p l lp)) (λ l. inr (let h = mul-le-mul-right (q ^ t) (next l) in omega arith)) (cases-lt i lost)
+    where
+      next : lost ≤ i → lost + 1 ≤ i
+      next l = omega arith
 
-  pub refilled-more : (place : ℕ) (before now after : List ℕ) (a : E) → place < q ^ t → q * t * q ^ t ≤ length now → Refilled-to f q t (among nodes) lost place before now
-      → a ≡ refill f q t (among nodes) lost (symbols f (q ^ t) now) place → Wrote (q ^ t) lost place a (symbols f (q ^ t) now) (symbols f (q ^ t) after)
-      → after ≡ set now (lost * q ^ t + place) (f .code a) → Refilled-to f q t (among nodes) lost (place + 1) before after
-  refilled-more place before now after a lplace room inv a-is wrote same = record {
-    made = λ p lp l. at p lp l (cases-eq p place);
-    codes = λ p lp l. code p lp l (cases-eq p place);
-    others = λ k h. ap (λ us. getD us k 0) same ∙ getD-set-other now (lost * q ^ t + place) k (f .code a) 0 (outside k h) ∙ inv .others k h;
+  others-apart : (before now : List ℕ) → Others q t lost before now → Apart-lost (symbols f (q ^ t) now) (symbols f (q ^ t) before)
+  others-apart before now others i p li lp ne = ap (read f) (others (i * q ^ t + p) (elsewhere i ne p lp))
+
+  -- one word of the lost node is written
+  module _ (place : ℕ) (before now after : List ℕ) (a : E) (lplace : place < q ^ t) (room : q * t * q ^ t ≤ length now) (same : after ≡ set now (lost * q ^ t + place) (f .code a)) where
+    written-code : laid (q ^ t) after lost place ≡ f .code a
+    written-code =
+        let w = spot-within (q * t) (q ^ t) lost place within lplace in
+        ap (λ us. laid (q ^ t) us lost place) same ∙ getD-set-same now (lost * q ^ t + place) (f .code a) 0 (omega arith)
+
+    written-other : (p : ℕ) → p ≢ place → laid (q ^ t) after lost p ≡ laid (q ^ t) now lost p
+    written-other p ne =
+        let apart : lost * q ^ t + p ≢ lost * q ^ t + place = λ e. ne (omega arith) in
+        ap (λ us. laid (q ^ t) us lost p) same ∙ getD-set-other now (lost * q ^ t + place) (lost * q ^ t + p) (f .code a) 0 apart
+
+    written-others : Others q t lost before now → Others q t lost before after
+    written-others others k h = ap (λ us. getD us k 0) same ∙ getD-set-other now (lost * q ^ t + place) k (f .code a) 0 (outside h) ∙ others k h
+      where
+        outside : (k < lost * q ^ t) ⊎ (lost * q ^ t + q ^ t ≤ k) → k ≢ lost * q ^ t + place
+        outside (inl l) e = omega arith
+        outside (inr l) e = omega arith
+
+    write-one : (done done′ : ℕ → Type 0) → ((p : ℕ) → p < q ^ t → done′ p → p ≢ place → done p) → Refilled-where f q t (among nodes) lost done before now
+        → a ≡ refill f q t (among nodes) lost (symbols f (q ^ t) before) place → Refilled-where f q t (among nodes) lost done′ before after
+    write-one done done′ step inv a-is = record {
+      made = λ p lp d. at p lp d (cases-eq p place);
+      codes = λ p lp d. code p lp d (cases-eq p place);
+      others = written-others (inv .others);
+    }
+      where
+        at : (p : ℕ) → p < q ^ t → done′ p → (p ≡ place) ⊎ (p ≡ place → ⊥) → symbols f (q ^ t) after lost p ≡ refill f q t (among nodes) lost (symbols f (q ^ t) before) p
+        at p lp d (inl e) =
+            ap (symbols f (q ^ t) after lost) e ∙ ap (read f) written-code ∙ read-written f laws a ∙ a-is ∙ ap (refill f q t (among nodes) lost (symbols f (q ^ t) before)) (sym e)
+        at p lp d (inr ne) = ap (read f) (written-other p ne) ∙ inv .made p lp (step p lp d ne)
+
+        code : (p : ℕ) → p < q ^ t → done′ p → (p ≡ place) ⊎ (p ≡ place → ⊥) → laid (q ^ t) after lost p < f .size
+        code p lp d (inl e) = subst (λ v. v < f .size) (sym (ap (laid (q ^ t) after lost) e ∙ written-code)) (laws .code-below a)
+        code p lp d (inr ne) = subst (λ v. v < f .size) (sym (written-other p ne)) (inv .codes p lp (step p lp d ne))
+
+  -- the node of row k in the column, in a plane that helps
+  module _ (plane k helper place : ℕ) (lplane : plane < q ^ t) (lk : k < q) (helps-plane : Helps q lost plane) (helper-is : helper ≡ getD nodes k 0) (place-is : place ≡ companion-place q helper plane) where
+    helper-at : helper ≡ node-at q k (column q lost)
+    unfolding node-at
+    helper-at = helper-is ∙ run .1 k lk
+
+    pub helper-within : helper < q * t
+    helper-within = let b = node-bound q pos k (column q lost) t lk (column-bound q pos lost t within) in let e = helper-at in omega arith
+
+    helper-column : column q helper ≡ column q lost
+    helper-column = ap (column q) helper-at ∙ column-node q pos k (column q lost) lk
+
+    is-lost : companion-node q helper plane ≡ lost
+    is-lost = companion-lost f laws q t pos (s .few) lost within helper plane helper-column helps-plane
+
+    pub place-within : place < q ^ t
+    place-within = let b = companion-place-bound q pos helper plane t helper-within lplane in omega arith
+
+    back-node : companion-node q lost place ≡ helper
+    back-node = ap₂ (companion-node q) (sym is-lost) place-is ∙ companion-back q pos helper plane
+
+    back-place : companion-place q lost place ≡ plane
+    back-place = ap₂ (companion-place q) (sym is-lost) place-is ∙ companion-place-back q pos helper plane
+
+    -- it gives the word at its companion's place
+    gives : (A A′ : ℕ → ℕ → E) → Apart-lost A′ A → (b : E) → b ≡ solution f q t (among nodes) A helper plane
+        → given f lost helper (A′ helper plane) b ≡ refill f q t (among nodes) lost A place
+    unfolding given
+    gives A A′ apart b b-is = go (cases-eq helper lost)
+      where
+        go : (helper ≡ lost) ⊎ (helper ≡ lost → ⊥) → cond (eqb helper lost) b (f .product (f .inverse (f .coupling)) (minus f b (A′ helper plane))) ≡ refill f q t (among nodes) lost A place
+        go (inl e) =
+            let own = companion-own place (back-node ∙ e) in
+            cond-true (eqb helper lost) _ _ (eq-eqb helper lost e) ∙ b-is ∙ ap₂ (solution f q t (among nodes) A) e (sym back-place ∙ own .1) ∙ sym (refill-own A place (own .0))
+        go (inr ne) =
+            cond-false (eqb helper lost) _ _ (ne-eqb helper lost ne)
+            ∙ ap₂ (λ v w. f .product (f .inverse (f .coupling)) (minus f v w))
+            (b-is ∙ sym (ap₂ (solution f q t (among nodes) A) back-node back-place))
+            (apart helper plane helper-within lplane ne ∙ sym (ap₂ A back-node back-place))
+            ∙ sym (refill-pair A place (companion-not place (λ e. ne (sym back-node ∙ e))))
+
+    -- one row more
+    pub row-more : (before now after : List ℕ) (a b : E) → q * t * q ^ t ≤ length now → PlaneRefilled f q t (among nodes) lost plane k before now
+        → b ≡ solution f q t (among nodes) (symbols f (q ^ t) before) helper plane → a ≡ given f lost helper (symbols f (q ^ t) now helper plane) b
+        → after ≡ set now (lost * q ^ t + place) (f .code a) → PlaneRefilled f q t (among nodes) lost plane (k + 1) before after
+    row-more before now after a b room inv b-is a-is same = record {
+      filled = write-one place before now after a place-within room same
+          (λ p. (companion-place q lost p ≡ plane) × (digit q p (column q lost) < k)) (λ p. (companion-place q lost p ≡ plane) × (digit q p (column q lost) < k + 1)) earlier (inv .filled)
+          (a-is ∙ gives (symbols f (q ^ t) before) (symbols f (q ^ t) now) (others-apart before now (inv .filled .others)) b b-is);
+      kept = λ p lp ne. written-other place before now after a place-within room same p (λ e. ne (ap (companion-place q lost) e ∙ back-place)) ∙ inv .kept p lp ne;
+    }
+      where
+        at-place : (p : ℕ) → companion-place q lost p ≡ plane → digit q p (column q lost) ≡ k → p ≡ place
+        at-place p e d =
+            sym (companion-place-back q pos lost p) ∙ ap₂ (companion-place q) (companion-at p k d ∙ sym helper-at) e ∙ sym place-is
+
+        earlier : (p : ℕ) → p < q ^ t → (companion-place q lost p ≡ plane) × (digit q p (column q lost) < k + 1) → p ≢ place → (companion-place q lost p ≡ plane) × (digit q p (column q lost) < k)
+        earlier p lp d ne = (d .0, let m : digit q p (column q lost) ≢ k = (λ e. ne (at-place p (d .0) e)) in let l = d .1 in omega arith)
+
+  pub row-none : (plane : ℕ) (before : List ℕ) → PlaneRefilled f q t (among nodes) lost plane 0 before before
+  row-none plane before = record {
+    filled = record { made = λ p lp d. absurd (let l = d .1 in omega arith); codes = λ p lp d. absurd (let l = d .1 in omega arith); others = λ k h. refl };
+    kept = λ p lp ne. refl;
+  }
+
+  -- the words whose companions lie in the planes below one
+  pub planes-none : (before : List ℕ) → Refilled-where f q t (among nodes) lost (λ p. companion-place q lost p < 0) before before
+  planes-none before = record { made = λ p lp d. absurd (omega arith); codes = λ p lp d. absurd (omega arith); others = λ k h. refl }
+
+  -- a plane that does not help is no companion's
+  pub planes-skip : (plane : ℕ) (before now : List ℕ) → (Helps q lost plane → ⊥) → Refilled-where f q t (among nodes) lost (λ p. companion-place q lost p < plane) before now
+      → Refilled-where f q t (among nodes) lost (λ p. companion-place q lost p < plane + 1) before now
+  planes-skip plane before now no-help inv = record { made = λ p lp d. inv .made p lp (low p d); codes = λ p lp d. inv .codes p lp (low p d); others = inv .others }
+    where
+      low : (p : ℕ) → companion-place q lost p < plane + 1 → companion-place q lost p < plane
+      low p d = let m : companion-place q lost p ≢ plane = (λ e. no-help (ap (λ r. digit q r (column q lost)) (sym e) ∙ digit-companion q pos lost p)) in omega arith
+
+  pub planes-more : (plane : ℕ) (before now after : List ℕ) → Refilled-where f q t (among nodes) lost (λ p. companion-place q lost p < plane) before now
+      → PlaneRefilled f q t (among nodes) lost plane q now after → Refilled-where f q t (among nodes) lost (λ p. companion-place q lost p < plane + 1) before after
+  planes-more plane before now after inv new = record {
+    made = λ p lp d. at p lp d (cases-eq (companion-place q lost p) plane);
+    codes = λ p lp d. code p lp d (cases-eq (companion-place q lost p) plane);
+    others = λ k h. new .filled .others k h ∙ inv .others k h;
   }
     where
-      A : List ℕ → ℕ → ℕ → E
-      A = symbols f (q ^ t)
+      at : (p : ℕ) → p < q ^ t → companion-place q lost p < plane + 1 → (companion-place q lost p ≡ plane) ⊎ (companion-place q lost p ≡ plane → ⊥)
+          → symbols f (q ^ t) after lost p ≡ refill f q t (among nodes) lost (symbols f (q ^ t) before) p
+      at p lp d (inl e) =
+          new .filled .made p lp (e, digit-bound q pos p (column q lost))
+          ∙ refill-other (symbols f (q ^ t) now) (symbols f (q ^ t) before) (others-apart before now (inv .others)) p lp
+      at p lp d (inr ne) = ap (read f) (new .kept p lp ne) ∙ inv .made p lp (omega arith)
 
-      elsewhere : (i : ℕ) → i ≢ lost → (p : ℕ) → p < q ^ t → (i * q ^ t + p < lost * q ^ t) ⊎ (lost * q ^ t + q ^ t ≤ i * q ^ t + p)
-      elsewhere i ne p lp = ⊎-elim (λ l. inl (spot-within lost (q ^ t) i p l lp)) (λ l. inr (let h = mul-le-mul-right (q ^ t) (after-lost l) in omega arith)) (cases-lt i lost)
-        where
-          after-lost : lost ≤ i → lost + 1 ≤ i
-          after-lost l = omega arith
+      code : (p : ℕ) → p < q ^ t → companion-place q lost p < plane + 1 → (companion-place q lost p ≡ plane) ⊎ (companion-place q lost p ≡ plane → ⊥) → laid (q ^ t) after lost p < f .size
+      code p lp d (inl e) = new .filled .codes p lp (e, digit-bound q pos p (column q lost))
+      code p lp d (inr ne) = subst (λ v. v < f .size) (sym (new .kept p lp ne)) (inv .codes p lp (omega arith))
 
-      apart : Apart-lost (A now) (A before)
-      apart i p li lp ne = ap (read f) (inv .others (i * q ^ t + p) (elsewhere i ne p lp))
-
-      at : (p : ℕ) → p < q ^ t → p < place + 1 → (p ≡ place) ⊎ (p ≡ place → ⊥) → A after lost p ≡ refill f q t (among nodes) lost (A before) p
-      at p lp l (inl e) = ap (A after lost) e ∙ wrote .here ∙ a-is ∙ refill-other (A now) (A before) apart place lplace ∙ ap (refill f q t (among nodes) lost (A before)) (sym e)
-      at p lp l (inr ne) = wrote .other lost p lp (inr ne) ∙ inv .made p lp (omega arith)
-
-      code : (p : ℕ) → p < q ^ t → p < place + 1 → (p ≡ place) ⊎ (p ≡ place → ⊥) → laid (q ^ t) after lost p < f .size
-      code p lp l (inl e) =
-          let w = spot-within (q * t) (q ^ t) lost place within lplace in
-          let g : laid (q ^ t) after lost p ≡ f .code a
-          = ap₂ (λ us r. laid (q ^ t) us lost r) same e ∙ getD-set-same now (lost * q ^ t + place) (f .code a) 0 (omega arith) in
-          let b = laws .code-below a in
-          omega arith
-      code p lp l (inr ne) =
-          let ne′ : lost * q ^ t + p ≢ lost * q ^ t + place = λ e. ne (omega arith) in
-          let g : laid (q ^ t) after lost p ≡ laid (q ^ t) now lost p
-          = ap (λ us. laid (q ^ t) us lost p) same ∙ getD-set-other now (lost * q ^ t + place) (lost * q ^ t + p) (f .code a) 0 ne′ in
-          let h = inv .codes p lp (omega arith) in
-          omega arith
-
-      outside : (k : ℕ) → (k < lost * q ^ t) ⊎ (lost * q ^ t + q ^ t ≤ k) → k ≢ lost * q ^ t + place
-      outside k (inl l) e = omega arith
-      outside k (inr l) e = omega arith
+  pub planes-all : (plane : ℕ) (before after : List ℕ) → q ^ t ≤ plane → Refilled-where f q t (among nodes) lost (λ p. companion-place q lost p < plane) before after
+      → Refilled-where f q t (among nodes) lost (λ p. p < q ^ t) before after
+  planes-all plane before after l inv = record { made = λ p lp d. inv .made p lp (low p lp); codes = λ p lp d. inv .codes p lp (low p lp); others = inv .others }
+    where
+      low : (p : ℕ) → p < q ^ t → companion-place q lost p < plane
+      low p lp = let b = companion-place-bound q pos lost p t within lp in omega arith
 
   -- the result
-  module _ (rises : rising (q * t) nodes ≡ true) (before after : List ℕ) (good : good-help f q t (laid (q ^ t) before) lost ≡ true) (filled : Refilled-to f q t (among nodes) lost (q ^ t) before after) where
-    w : Words
-    w = laid (q ^ t) before
-
+  module _ (rises : rising (q * t) nodes ≡ true) (before after : List ℕ) (good : good-help f q t (laid (q ^ t) before) lost ≡ true) (filled : Refilled-where f q t (among nodes) lost (λ p. p < q ^ t) before after) where
     A : ℕ → ℕ → E
     A = symbols f (q ^ t) before
 
@@ -195,21 +293,11 @@ module _ {E : Type 0} (f : Arith E) (laws : Laws f) {q t : ℕ} (s : Shaped q t)
     helper-code i p li lp h ne =
         let row-good = every-at (λ j. cond (eqb j lost) true (helper-codes f q t (laid (q ^ t) before) lost j)) (q * t) good i li in
         let here = sym (cond-false (eqb i lost) true (helper-codes f q t (laid (q ^ t) before) lost i) (ne-eqb i lost ne)) ∙ row-good in
-        let word = every-at (λ r. cond (helps f q t lost r) (ltb (laid (q ^ t) before i r) (f .size)) true) (q ^ t) here p lp in
-        ltb-true (laid (q ^ t) before i p) (f .size) (sym (cond-true (helps f q t lost p) (ltb (laid (q ^ t) before i p) (f .size)) true (eq-eqb (digit q p (column q lost)) (row q lost) h)) ∙ word)
-
-    other : (c : ℕ → ℕ) (i p : ℕ) → i ≢ lost → elements f (with-node f q t w lost c) i p ≡ f .of (w i p)
-    other c i p ne = ap (f .of) (cond-false (eqb i lost) (c p) (w i p) (ne-eqb i lost ne))
-
-    own : (c : ℕ → ℕ) (p : ℕ) → with-node f q t w lost c lost p ≡ c p
-    own c p = cond-true (eqb lost lost) (c p) (w lost p) (eq-eqb lost lost refl)
+        let word = every-at (λ r. cond (helps q lost r) (ltb (laid (q ^ t) before i r) (f .size)) true) (q ^ t) here p lp in
+        ltb-true (laid (q ^ t) before i p) (f .size) (sym (cond-true (helps q lost p) (ltb (laid (q ^ t) before i p) (f .size)) true (eq-eqb (digit q p (column q lost)) (row q lost) h)) ∙ word)
 
     c : ℕ → ℕ
     c = laid (q ^ t) after lost
-
-    made : (p : ℕ) → p < q ^ t → elements f (with-node f q t w lost c) lost p ≡ refill f q t (among nodes) lost A p
-    unfolding c A
-    made p lp = ap (f .of) (own (laid (q ^ t) after lost) p) ∙ sym (read-code f (laid (q ^ t) after lost p) (filled .codes p lp lp)) ∙ filled .made p lp lp
 
     solves : (p : ℕ) → Solves f laws q t pos (in-column q (column q lost)) q A (solution f q t (among nodes) A) p
     solves p e le =
@@ -220,24 +308,40 @@ module _ {E : Type 0} (f : Arith E) (laws : Laws f) {q t : ℕ} (s : Shaped q t)
         (λ i li. ap (λ b. cond b (solution f q t (among nodes) A i p) (uncoupled f q A i p)) (sym (as-column i)))
         ∙ solution-solves f laws q t pos (among nodes) (s .few) A p q (omega arith) e le
 
-    checks : (p e : ℕ) → p < q ^ t → e < q → digit q p (column q lost) ≡ row q lost → check f q t (elements f (with-node f q t w lost c)) p e ≡ f .zero
-    unfolding w A
-    checks =
-        repaired-by f laws q t pos (s .few) lost within A (solution f q t (among nodes) A) (elements f (with-node f q t w lost c)) (λ p lp h. solves p)
-        (λ i p li lp h ne. other c i p ne ∙ sym (read-code f (w i p) (helper-code i p li lp h ne)))
-        (λ p lp h. made p lp ∙ refill-own A p h) (λ p lp h. made p lp ∙ refill-pair A p h)
+    -- in any array with the same helper words
+    module _ (v : Words) (same : SameHelp f q t lost v (laid (q ^ t) before)) where
+      other : (d : ℕ → ℕ) (i p : ℕ) → i ≢ lost → elements f (with-node v lost d) i p ≡ f .of (v i p)
+      other d i p ne = ap (λ r. f .of (r p)) (cond-false (eqb i lost) d (v i) (ne-eqb i lost ne))
 
-    pub only-refill : OnlyRefill f q t (laid (q ^ t) before) lost (laid (q ^ t) after lost)
-    unfolding w c
-    only-refill = record {
-      refills = record {
-        codes = λ p lp. subst (λ v. v < f .size) (sym (own c p)) (filled .codes p lp lp);
-        checks = λ p e lp le h. checks p e lp le (eqb-true (digit q p (column q lost)) (row q lost) h);
-      };
-      only = λ d fills p lp.
-          same-word f laws (d p) (c p) (subst (λ v. v < f .size) (own d p) (fills .codes p lp)) (filled .codes p lp lp)
-          (sym (ap (f .of) (own d p))
-          ∙ repair-only-one f laws q t pos (s .few) lost within (elements f (with-node f q t w lost d)) (elements f (with-node f q t w lost c))
-          (λ r e lr le h. fills .checks r e lr le (eq-eqb (digit q r (column q lost)) (row q lost) h)) checks (λ i r li lr h ne. other d i r ne ∙ sym (other c i r ne)) p lp
-          ∙ ap (f .of) (own c p));
-    }
+      own : (d : ℕ → ℕ) (p : ℕ) → with-node v lost d lost p ≡ d p
+      own d p = ap (λ r. r p) (cond-true (eqb lost lost) d (v lost) (eq-eqb lost lost refl))
+
+      made : (p : ℕ) → p < q ^ t → elements f (with-node v lost c) lost p ≡ refill f q t (among nodes) lost A p
+      unfolding c A
+      made p lp = ap (f .of) (own (laid (q ^ t) after lost) p) ∙ sym (read-code f (laid (q ^ t) after lost p) (filled .codes p lp lp)) ∙ filled .made p lp lp
+
+      helper : (i p : ℕ) → i < q * t → p < q ^ t → digit q p (column q lost) ≡ row q lost → i ≢ lost → f .of (v i p) ≡ A i p
+      unfolding A
+      helper i p li lp h ne =
+          ap (f .of) (same i p li lp (eq-eqb (digit q p (column q lost)) (row q lost) h) ne) ∙ sym (read-code f (laid (q ^ t) before i p) (helper-code i p li lp h ne))
+
+      checks : (p e : ℕ) → p < q ^ t → e < q → digit q p (column q lost) ≡ row q lost → check f q t (elements f (with-node v lost c)) p e ≡ f .zero
+      checks =
+          repaired-by f laws q t pos (s .few) lost within A (solution f q t (among nodes) A) (elements f (with-node v lost c)) (λ p lp h. solves p)
+          (λ i p li lp h ne. other c i p ne ∙ helper i p li lp h ne)
+          (λ p lp h. made p lp ∙ refill-own A p h) (λ p lp h. made p lp ∙ refill-pair A p h)
+
+      pub only-refill : OnlyRefill f q t v lost (laid (q ^ t) after lost)
+      unfolding c
+      only-refill = record {
+        refills = record {
+          codes = λ p lp. subst (λ u. u < f .size) (sym (own c p)) (filled .codes p lp lp);
+          checks = λ p e lp le h. checks p e lp le (eqb-true (digit q p (column q lost)) (row q lost) h);
+        };
+        only = λ d fills p lp.
+            same-word f laws (d p) (c p) (subst (λ u. u < f .size) (own d p) (fills .codes p lp)) (filled .codes p lp lp)
+            (sym (ap (f .of) (own d p))
+            ∙ repair-only-one f laws q t pos (s .few) lost within (elements f (with-node v lost d)) (elements f (with-node v lost c))
+            (λ r e lr le h. fills .checks r e lr le (eq-eqb (digit q r (column q lost)) (row q lost) h)) checks (λ i r li lr h ne. other d i r ne ∙ sym (other c i r ne)) p lp
+            ∙ ap (f .of) (own c p));
+      }

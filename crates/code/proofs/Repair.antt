@@ -11,7 +11,8 @@ use Rattle.std.proofs.shelf.Tests.{cases-eq, cases-bool, eqb-true, eqb-false, e
 use Rattle.field.specs.Field.{Arith, Laws}
 use Rattle.shape.specs.Layout.{digit, node-at, row, column, companion-node, companion-place}
 use Rattle.shape.specs.Outages.{count}
-use Rattle.code.specs.Code.{moment, uncoupled, Checks}
+use Rattle.code.specs.Code.{moment, uncoupled}
+use Rattle.code.specs.Theorems.{Helps, Help-checks, Agree-help}
 use Rattle.shape.proofs.Digits.{row-bound, column-bound, node-own, row-companion, column-companion, digit-companion, digit-with-other, companion-bound, companion-place-bound, companion-back, companion-place-back}
 use Rattle.code.proofs.Ring.{minus, zero-sum, minus-back, minus-self, same, neg-sum, factor-zero, inverse-back, product-zero}
 use Rattle.code.proofs.Sums.{moment-same, moment-sum}
@@ -62,23 +63,11 @@ module _ {E : Type 0} (f : Arith E) (laws : Laws f) (q t : ℕ) (pos : 0 < q) (f
   infixl 60 _⊕_
   infixl 70 _⊗_
   infixr 80 ⊖_
-  -- the planes that are read: their digit in the node's column is the node's row
-  abbrev pub Read : ℕ → Type 0
-  Read p = digit q p (column q lost) ≡ row q lost
-
   abbrev Col : ℕ → Bool
   Col = in-column q (column q lost)
 
   column-size : count Col (q * t) ≡ q
   column-size = column-count q (column q lost) pos t .1 (column-bound q pos lost t within)
-
-  -- the checks of the planes that are read
-  abbrev pub Read-checks : (A : ℕ → ℕ → E) → Type 0
-  Read-checks A = (p e : ℕ) → p < q ^ t → e < q → Read p → moment f (f .point) (λ i. uncoupled f q A i p) (q * t) e ≡ 𝟎
-
-  -- two arrays agree at the other nodes, in the planes that are read
-  abbrev pub Agree-read : (A A′ : ℕ → ℕ → E) → Type 0
-  Agree-read A A′ = (i p : ℕ) → i < q * t → p < q ^ t → Read p → i ≢ lost → A i p ≡ A′ i p
 
   col-out : (i : ℕ) → Col i ≡ false → column q i ≢ column q lost
   unfolding in-column
@@ -89,11 +78,11 @@ module _ {E : Type 0} (f : Arith E) (laws : Laws f) (q t : ℕ) (pos : 0 < q) (f
   col-in i e = eqb-true (column q i) (column q lost) e
 
   -- in another column, a node's companion in a plane that is read lies in a plane that is read
-  other-read : (i p : ℕ) → column q i ≢ column q lost → Read p → Read (companion-place q i p)
+  other-read : (i p : ℕ) → column q i ≢ column q lost → Helps q lost p → Helps q lost (companion-place q i p)
   unfolding companion-place
   other-read i p ne r = digit-with-other q pos p (column q i) (row q i) (column q lost) (row-bound q pos i) ne ∙ r
 
-  uncoupled-other : (A A′ : ℕ → ℕ → E) → Agree-read A A′ → (i p : ℕ) → i < q * t → p < q ^ t → Read p → Col i ≡ false → uncoupled f q A i p ≡ uncoupled f q A′ i p
+  uncoupled-other : (A A′ : ℕ → ℕ → E) → Agree-help f q t lost A A′ → (i p : ℕ) → i < q * t → p < q ^ t → Helps q lost p → Col i ≡ false → uncoupled f q A i p ≡ uncoupled f q A′ i p
   uncoupled-other A A′ agree i p li lp r out =
       let ne : column q i ≢ column q lost = col-out i out in
       uncoupled-same f laws q A A′ i p (agree i p li lp r (λ e. ne (ap (column q) e)))
@@ -101,18 +90,18 @@ module _ {E : Type 0} (f : Arith E) (laws : Laws f) (q t : ℕ) (pos : 0 < q) (f
       (other-read i p ne r) (λ e. ne (sym (column-companion q pos i p) ∙ ap (column q) e)))
 
   -- the companions of the lost node
-  lost-read : (p : ℕ) → Read (companion-place q lost p)
+  lost-read : (p : ℕ) → Helps q lost (companion-place q lost p)
   lost-read p = digit-companion q pos lost p
 
   lost-apart : (p : ℕ) → (row q lost ≡ digit q p (column q lost) → ⊥) → companion-node q lost p ≢ lost
   lost-apart p ne e = ne (sym (ap (row q) e) ∙ row-companion q pos lost p)
 
-  module _ (D : ℕ → ℕ → E) (checks : Read-checks D) (known : (i p : ℕ) → i < q * t → p < q ^ t → Read p → i ≢ lost → D i p ≡ 𝟎) where
+  module _ (D : ℕ → ℕ → E) (checks : Help-checks f q t lost D) (known : (i p : ℕ) → i < q * t → p < q ^ t → Helps q lost p → i ≢ lost → D i p ≡ 𝟎) where
     nothing : (i p : ℕ) → row q i ≡ digit q p (column q i) ⊎ (row q i ≡ digit q p (column q i) → ⊥) → uncoupled f q (λ i p. 𝟎) i p ≡ 𝟎
     nothing i p (inl o) = uncoupled-own f laws q (λ i p. 𝟎) i p o
     nothing i p (inr o) = uncoupled-pair f laws q (λ i p. 𝟎) i p o ∙ sum-none f laws q t pos fits 𝟎 𝟎 refl
 
-    read-plane : (p : ℕ) → p < q ^ t → Read p → (i : ℕ) → i < q * t → uncoupled f q D i p ≡ 𝟎
+    read-plane : (p : ℕ) → p < q ^ t → Helps q lost p → (i : ℕ) → i < q * t → uncoupled f q D i p ≡ 𝟎
     read-plane p lp r =
         let k = column-size in
         only-zero f laws (f .point) Col (q * t) q (λ i. uncoupled f q D i p) (nodes-apart f laws q t pos fits) (omega arith)
@@ -142,24 +131,24 @@ module _ {E : Type 0} (f : Arith E) (laws : Laws f) (q t : ℕ) (pos : 0 < q) (f
             ∙ sym (uncoupled-companion f laws q D lost p pos o) ∙ read-plane d ld (lost-read p) c lc)
 
   -- what the lost node held is settled by what is read
-  pub repair-only-one : (A A′ : ℕ → ℕ → E) → Read-checks A → Read-checks A′ → Agree-read A A′ → (p : ℕ) → p < q ^ t → A lost p ≡ A′ lost p
+  pub repair-only-one : (A A′ : ℕ → ℕ → E) → Help-checks f q t lost A → Help-checks f q t lost A′ → Agree-help f q t lost A A′ → (p : ℕ) → p < q ^ t → A lost p ≡ A′ lost p
   repair-only-one A A′ checks checks′ agree p lp =
       same f laws (A lost p) (A′ lost p)
       (lost-zero (less f laws A A′) (λ p e lp le r. check-less f laws q A A′ p (q * t) e (checks p e lp le r) (checks′ p e lp le r))
       (λ i p li lp r ne. minus-self f laws (A i p) (A′ i p) (agree i p li lp r ne)) p lp)
 
   -- the companion of a node of the column, in a plane that is read
-  companion-lost : (i p : ℕ) → column q i ≡ column q lost → Read p → companion-node q i p ≡ lost
+  pub companion-lost : (i p : ℕ) → column q i ≡ column q lost → Helps q lost p → companion-node q i p ≡ lost
   unfolding companion-node
   companion-lost i p k r = ap₂ (node-at q) (ap (digit q p) k ∙ r) k ∙ node-own q pos lost
 
   -- b solves the planes that are read, and the lost node is made from b
   pub repaired-by : (A b A′ : ℕ → ℕ → E)
-      → ((p : ℕ) → p < q ^ t → Read p → Solves f laws q t pos Col q A b p)
-      → Agree-read A′ A
-      → ((p : ℕ) → p < q ^ t → Read p → A′ lost p ≡ b lost p)
-      → ((p : ℕ) → p < q ^ t → (Read p → ⊥) → A′ lost p ≡ inverse u ⊗ minus f (b (companion-node q lost p) (companion-place q lost p)) (A (companion-node q lost p) (companion-place q lost p)))
-      → Read-checks A′
+      → ((p : ℕ) → p < q ^ t → Helps q lost p → Solves f laws q t pos Col q A b p)
+      → Agree-help f q t lost A′ A
+      → ((p : ℕ) → p < q ^ t → Helps q lost p → A′ lost p ≡ b lost p)
+      → ((p : ℕ) → p < q ^ t → (Helps q lost p → ⊥) → A′ lost p ≡ inverse u ⊗ minus f (b (companion-node q lost p) (companion-place q lost p)) (A (companion-node q lost p) (companion-place q lost p)))
+      → Help-checks f q t lost A′
   repaired-by A b A′ solves agree own pair p e lp le r =
       moment-same f laws (f .point) (λ i. uncoupled f q A′ i p) (λ i. cond (Col i) (b i p) (uncoupled f q A i p)) (q * t) e
       (λ i li. go i li (cases-bool (Col i)) (cases-eq (row q i) (digit q p (column q i))))
@@ -175,7 +164,7 @@ module _ {E : Type 0} (f : Arith E) (laws : Laws f) (q t : ℕ) (pos : 0 < q) (f
           let back : companion-node q lost d ≡ i = ap (λ j. companion-node q j d) (sym is) ∙ companion-back q pos i p in
           let back-plane : companion-place q lost d ≡ p = ap (λ j. companion-place q j d) (sym is) ∙ companion-place-back q pos i p in
           let ne : row q i ≢ row q lost = λ e. o (e ∙ sym r ∙ ap (digit q p) (sym k)) in
-          let unread : Read d → ⊥ = λ e. ne (sym (digit-companion q pos i p) ∙ ap (digit q d) k ∙ e) in
+          let unread : Helps q lost d → ⊥ = λ e. ne (sym (digit-companion q pos i p) ∙ ap (digit q d) k ∙ e) in
           uncoupled-pair f laws q A′ i p o
           ∙ ap₂ (λ v w. v ⊕ u ⊗ w) (agree i p li lp r (λ e. ne (ap (row q) e)))
           (ap (λ j. A′ j d) is ∙ pair d (companion-place-bound q pos i p t li lp) unread ∙ ap₂ (λ j s. inverse u ⊗ minus f (b j s) (A j s)) back back-plane)
@@ -199,16 +188,16 @@ module _ {E : Type 0} (f : Arith E) (laws : Laws f) (q t : ℕ) (pos : 0 < q) (f
   unfolding repaired
   repaired-kept A i p ne = cond-false (eqb i lost) _ _ (ne-eqb i lost ne)
 
-  repaired-lost : (A : ℕ → ℕ → E) (p : ℕ) → Read p → repaired A lost p ≡ solution f q t Col A lost p
+  repaired-lost : (A : ℕ → ℕ → E) (p : ℕ) → Helps q lost p → repaired A lost p ≡ solution f q t Col A lost p
   unfolding repaired
   repaired-lost A p r = cond-true (eqb lost lost) _ _ (eq-eqb lost lost refl) ∙ cond-true (eqb (digit q p (column q lost)) (row q lost)) _ _ (eq-eqb (digit q p (column q lost)) (row q lost) r)
 
-  repaired-other : (A : ℕ → ℕ → E) (p : ℕ) → (Read p → ⊥)
+  repaired-other : (A : ℕ → ℕ → E) (p : ℕ) → (Helps q lost p → ⊥)
       → repaired A lost p ≡ inverse u ⊗ minus f (solution f q t Col A (companion-node q lost p) (companion-place q lost p)) (A (companion-node q lost p) (companion-place q lost p))
   unfolding repaired
   repaired-other A p r = cond-true (eqb lost lost) _ _ (eq-eqb lost lost refl) ∙ cond-false (eqb (digit q p (column q lost)) (row q lost)) _ _ (ne-eqb (digit q p (column q lost)) (row q lost) r)
 
-  pub repair-some-one : (A : ℕ → ℕ → E) → Read-checks (repaired A)
+  pub repair-some-one : (A : ℕ → ℕ → E) → Help-checks f q t lost (repaired A)
   repair-some-one A =
       let k = column-size in
       repaired-by A (solution f q t Col A) (repaired A)

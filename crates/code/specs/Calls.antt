@@ -10,9 +10,8 @@ use Rattle.field.specs.Field.{Arith}
 use Rattle.refusal.specs.First.{first}
 use Rattle.refusal.specs.declared.reason.Refusal.{Refusal}
 use Rattle.refusal.specs.declared.reason.Refusal.the-variants.{MessageLength, WorkSpace, NoCode, NoSuchPlace, TooManyOut, BadWord, NoCodeword}
-use Rattle.shape.specs.Layout.{column, row, digit}
 use Rattle.shape.specs.Outages.{every, among}
-use Rattle.code.specs.Code.{Words, laid, check, elements, Codeword, Same, SameAt, Carries}
+use Rattle.code.specs.Code.{Words, laid, helps, Codeword, Agrees, OnlyAgrees, Encodes, SameHelp, OnlyRefill}
 use Rattle.code.specs.Solving.{points, Codes}
 use Rattle.code.specs.Theorems.{Solves}
 use Rattle.std.specs.declared.option.Option.{Option}
@@ -28,6 +27,23 @@ Rest n before after = drop n after ≡ drop n before
 abbrev pub Tells : Bool → Type 0 → Type 0
 Tells true P = P
 Tells false P = P → ⊥
+
+-- the nodes that are not listed stand
+abbrev pub standing : (nodes : List ℕ) → ℕ → Bool
+standing nodes i = not (among nodes i)
+
+module _ (q t : ℕ) where
+  -- whether there are too few words for all nodes
+  abbrev pub short : List ℕ → Bool
+  short ws = ltb (length ws) (q * t * q ^ t)
+
+  -- why restore refuses at first: a list of `count` nodes is unfit, or has too many
+  abbrev pub restore-refusal : (count : ℕ) (nodes ws : List ℕ) → Option Refusal
+  restore-refusal count nodes ws = first (short ws) WorkSpace (first (not (eqb count (q * t))) NoSuchPlace (first (ltb q (length nodes)) TooManyOut None))
+
+  -- the words before those of node i, and those after them, are as they were
+  abbrev pub Others : (i : ℕ) (before after : List ℕ) → Type 0
+  Others i before after = (k : ℕ) → (k < i * q ^ t) ⊎ (i * q ^ t + q ^ t ≤ k) → getD after k 0 ≡ getD before k 0
 
 module _ {E : Type 0} (f : Arith E) where
   -- whether the first n words are codes
@@ -55,94 +71,53 @@ module _ {E : Type 0} (f : Arith E) where
   Solved nodes before (Err e) after = (solve-refusal nodes before ≡ Some e) × (after ≡ before)
 
 module _ {E : Type 0} (f : Arith E) (q t : ℕ) where
-  -- whether there are too few words for all nodes
-  abbrev pub short : List ℕ → Bool
-  short ws = ltb (length ws) (q * t * q ^ t)
-
   -- ---- checks_hold
   abbrev pub Checked : List ℕ → Result Bool Refusal → Type 0
-  Checked ws (Ok b) = (short ws ≡ false) × Tells b (Codeword f q t (laid (q ^ t) ws))
-  Checked ws (Err e) = (short ws ≡ true) × (e ≡ WorkSpace)
+  Checked ws (Ok b) = (short q t ws ≡ false) × Tells b (Codeword f q t (laid (q ^ t) ws))
+  Checked ws (Err e) = (short q t ws ≡ true) × (e ≡ WorkSpace)
 
-  -- ---- restore: `standing` tells the nodes that are not listed
-  abbrev pub standing : (nodes : List ℕ) → ℕ → Bool
-  standing nodes i = not (among nodes i)
-
-  abbrev pub restore-refusal : (count : ℕ) (nodes ws : List ℕ) → Option Refusal
-  restore-refusal count nodes ws = first (short ws) WorkSpace (first (not (eqb count (q * t))) NoSuchPlace (first (ltb q (length nodes)) TooManyOut None))
-
+  -- ---- restore
   -- every word of every standing node is a code
   abbrev pub good-standing : (stands : ℕ → Bool) → Words → Bool
   good-standing stands w = every (λ i. cond (stands i) (every (λ p. ltb (w i p) (f .size)) (q ^ t)) true) (q * t)
 
-  -- a codeword that agrees with every standing node
-  pub record Agrees (stands : ℕ → Bool) (words w : Words) : Type 0 where
-    pub codeword : Codeword f q t w
-    pub same : SameAt f q t stands w words
-
-  pub record OnlyAgrees (stands : ℕ → Bool) (words w : Words) : Type 0 where
-    pub agrees : Agrees stands words w
-    pub only : (v : Words) → Agrees stands words v → Same f q t v w
-
   -- past the first refusals: a word is no code, or no codeword agrees
   abbrev pub NoneAgrees : (stands : ℕ → Bool) → Words → Refusal → Type 0
   NoneAgrees stands words e =
-      elim (good-standing stands words) [ true ↦ (e ≡ NoCodeword) × ((w : Words) → Agrees stands words w → ⊥) | false ↦ e ≡ BadWord ]
+      elim (good-standing stands words) [ true ↦ (e ≡ NoCodeword) × ((w : Words) → Agrees f q t stands words w → ⊥) | false ↦ e ≡ BadWord ]
 
   abbrev pub Restored : {X : Type 0} → (count : ℕ) (nodes before : List ℕ) → Result X Refusal → List ℕ → Type 0
   Restored count nodes before (Ok x) after =
-      (restore-refusal count nodes before ≡ None) × OnlyAgrees (standing nodes) (laid (q ^ t) before) (laid (q ^ t) after) × Rest (q * t * q ^ t) before after
+      (restore-refusal q t count nodes before ≡ None) × OnlyAgrees f q t (standing nodes) (laid (q ^ t) before) (laid (q ^ t) after) × Rest (q * t * q ^ t) before after
   Restored count nodes before (Err e) after =
-      elim (restore-refusal count nodes before) [ Some r ↦ (e ≡ r) × (after ≡ before) | None ↦ NoneAgrees (standing nodes) (laid (q ^ t) before) e × Rest (q * t * q ^ t) before after ]
+      elim (restore-refusal q t count nodes before) [ Some r ↦ (e ≡ r) × (after ≡ before) | None ↦ NoneAgrees (standing nodes) (laid (q ^ t) before) e × Rest (q * t * q ^ t) before after ]
 
   -- ---- encode
   abbrev pub encode-refusal : (message ws : List ℕ) → Option Refusal
   encode-refusal message ws =
-      first (not (eqb (length message) (q * (t - 1) * q ^ t))) MessageLength (first (short ws) WorkSpace (first (not (all-codes f message)) NoCode None))
-
-  -- the codeword that carries the message
-  pub record Encodes (message : List ℕ) (w : Words) : Type 0 where
-    pub codeword : Codeword f q t w
-    pub carries : Carries f q t w message
-    pub only : (v : Words) → Codeword f q t v → Carries f q t v message → Same f q t v w
+      first (not (eqb (length message) (q * (t - 1) * q ^ t))) MessageLength (first (short q t ws) WorkSpace (first (not (all-codes f message)) NoCode None))
 
   abbrev pub Encoded : {X : Type 0} → (message before : List ℕ) → Result X Refusal → List ℕ → Type 0
-  Encoded message before (Ok x) after = (encode-refusal message before ≡ None) × Encodes message (laid (q ^ t) after) × Rest (q * t * q ^ t) before after
+  Encoded message before (Ok x) after = (encode-refusal message before ≡ None) × Encodes f q t message (laid (q ^ t) after) × Rest (q * t * q ^ t) before after
   Encoded message before (Err e) after = (encode-refusal message before ≡ Some e) × (after ≡ before)
 
-  -- ---- rebuild of node i: the places that help have its row for their digit in its column
-  abbrev pub helps : (i p : ℕ) → Bool
-  helps i p = eqb (digit q p (column q i)) (row q i)
-
+  -- ---- rebuild
   -- every word of node j at a place that helps is a code
   abbrev pub helper-codes : Words → (i j : ℕ) → Bool
-  helper-codes w i j = every (λ p. cond (helps i p) (ltb (w j p) (f .size)) true) (q ^ t)
+  helper-codes w i j = every (λ p. cond (helps q i p) (ltb (w j p) (f .size)) true) (q ^ t)
 
   -- so it is of every other node
   abbrev pub good-help : Words → ℕ → Bool
   good-help w i = every (λ j. cond (eqb j i) true (helper-codes w i j)) (q * t)
 
   abbrev pub rebuild-refusal : (i : ℕ) (ws : List ℕ) → Option Refusal
-  rebuild-refusal i ws = first (short ws) WorkSpace (first (not (ltb i (q * t))) NoSuchPlace (first (not (good-help (laid (q ^ t) ws) i)) BadWord None))
+  rebuild-refusal i ws = first (short q t ws) WorkSpace (first (not (ltb i (q * t))) NoSuchPlace (first (not (good-help (laid (q ^ t) ws) i)) BadWord None))
 
-  -- the array with c for the words of node i
-  abbrev pub with-node : Words → ℕ → (ℕ → ℕ) → Words
-  with-node w i c j p = cond (eqb j i) (c p) (w j p)
-
-  -- the words of node i are codes with which the checks of the planes that help hold
-  pub record Refills (w : Words) (i : ℕ) : Type 0 where
-    pub codes : (p : ℕ) → p < q ^ t → w i p < f .size
-    pub checks : (p e : ℕ) → p < q ^ t → e < q → helps i p ≡ true → check f q t (elements f w) p e ≡ f .zero
-
-  pub record OnlyRefill (w : Words) (i : ℕ) (c : ℕ → ℕ) : Type 0 where
-    pub refills : Refills (with-node w i c) i
-    pub only : (d : ℕ → ℕ) → Refills (with-node w i d) i → (p : ℕ) → p < q ^ t → d p ≡ c p
-
-  -- the words before those of node i, and those after them, are as they were
-  abbrev pub Others : (i : ℕ) (before after : List ℕ) → Type 0
-  Others i before after = (k : ℕ) → (k < i * q ^ t) ⊎ (i * q ^ t + q ^ t ≤ k) → getD after k 0 ≡ getD before k 0
+  -- the refill of node i, whatever the array holds but for the words that help
+  abbrev pub HelpRefill : Words → ℕ → (ℕ → ℕ) → Type 0
+  HelpRefill w i c = (v : Words) → SameHelp f q t i v w → OnlyRefill f q t v i c
 
   abbrev pub Rebuilt : {X : Type 0} → (i : ℕ) (before : List ℕ) → Result X Refusal → List ℕ → Type 0
   Rebuilt i before (Ok x) after =
-      (rebuild-refusal i before ≡ None) × OnlyRefill (laid (q ^ t) before) i (laid (q ^ t) after i) × Others i before after
+      (rebuild-refusal i before ≡ None) × HelpRefill (laid (q ^ t) before) i (laid (q ^ t) after i) × Others q t i before after
   Rebuilt i before (Err e) after = (rebuild-refusal i before ≡ Some e) × (after ≡ before)

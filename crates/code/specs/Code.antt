@@ -1,5 +1,6 @@
 -- The coupled-layer code over a field. Assumes nothing.
 use mathlib.Core.Path.{_≡_}
+use mathlib.Core.Logic.{_≢_}
 use mathlib.Core.Bool.{Bool, true, cond}
 use mathlib.Core.List.{List}
 use Prim.Native.Nat.{ℕ, zero, suc, _+_, _-_, _*_, _^_, _<_}
@@ -15,6 +16,14 @@ Words = ℕ → ℕ → ℕ
 -- the words in a list, node by node with places rising
 abbrev pub laid : (places : ℕ) → List ℕ → Words
 laid places ws i p = getD ws (i * places + p) 0
+
+-- the array with c for the words of node i
+abbrev pub with-node : Words → ℕ → (ℕ → ℕ) → Words
+with-node w i c j = cond (eqb j i) c (w j)
+
+-- place p helps node i: its digit in the node's column is the node's row
+abbrev pub helps : (q i p : ℕ) → Bool
+helps q i p = eqb (digit q p (column q i)) (row q i)
 
 module _ {E : Type 0} (f : Arith E) where
   -- a - b
@@ -70,3 +79,33 @@ module _ {E : Type 0} (f : Arith E) (q t : ℕ) where
   -- the message stands in the data nodes, node by node with places rising
   abbrev pub Carries : Words → List ℕ → Type 0
   Carries w message = (i p : ℕ) → i < q * (t - 1) → p < q ^ t → w i p ≡ laid (q ^ t) message i p
+
+  -- a codeword that agrees with every node that passes the test
+  pub record Agrees (stands : ℕ → Bool) (words w : Words) : Type 0 where
+    pub codeword : Codeword w
+    pub same : SameAt stands w words
+
+  -- the only one
+  pub record OnlyAgrees (stands : ℕ → Bool) (words w : Words) : Type 0 where
+    pub agrees : Agrees stands words w
+    pub only : (v : Words) → Agrees stands words v → Same v w
+
+  -- the codeword that carries the message
+  pub record Encodes (message : List ℕ) (w : Words) : Type 0 where
+    pub codeword : Codeword w
+    pub carries : Carries w message
+    pub only : (v : Words) → Codeword v → Carries v message → Same v w
+
+  -- the same words in the other nodes, at the places that help node i
+  abbrev pub SameHelp : ℕ → Words → Words → Type 0
+  SameHelp i w v = (j p : ℕ) → j < q * t → p < q ^ t → helps q i p ≡ true → j ≢ i → w j p ≡ v j p
+
+  -- the words of node i are codes with which the checks of the planes that help it hold
+  pub record Refills (w : Words) (i : ℕ) : Type 0 where
+    pub codes : (p : ℕ) → p < q ^ t → w i p < f .size
+    pub checks : (p e : ℕ) → p < q ^ t → e < q → helps q i p ≡ true → check f q t (elements f w) p e ≡ f .zero
+
+  -- c is the only list of words for node i that does so
+  pub record OnlyRefill (w : Words) (i : ℕ) (c : ℕ → ℕ) : Type 0 where
+    pub refills : Refills (with-node w i c) i
+    pub only : (d : ℕ → ℕ) → Refills (with-node w i d) i → (p : ℕ) → p < q ^ t → d p ≡ c p

@@ -44,16 +44,6 @@ module _ {E : Type 0} (f : Arith E) where
       (cond (erased (companion-node q i p)) (of-pair (b i p) (b (companion-node q i p) (companion-place q i p)))
       (minus f (b i p) (f .product (f .coupling) (A (companion-node q i p) (companion-place q i p)))))
 
-  -- the planes of score s, filled
-  unfoldable pub step : (q t : ℕ) (erased : ℕ → Bool) (s : ℕ) (A : ℕ → ℕ → E) (i p : ℕ) → E
-  step q t erased s A i p =
-      cond (erased i) (cond (eqb (score q t erased p) s) (turn q erased A (solution q t erased A) i p) (A i p)) (A i p)
-
-  -- the planes of score below s, filled with rising score
-  unfoldable pub complete : (q t : ℕ) (erased : ℕ → Bool) (s : ℕ) (A : ℕ → ℕ → E) (i p : ℕ) → E
-  complete q t erased zero A = A
-  complete q t erased (suc s) A = step q t erased s (complete q t erased s A)
-
   -- the symbol at place p of a lost node, whose column is erased: from the solution of the plane that helps it there
   unfoldable pub refill : (q t : ℕ) (erased : ℕ → Bool) (lost : ℕ) (A : ℕ → ℕ → E) (p : ℕ) → E
   refill q t erased lost A p =

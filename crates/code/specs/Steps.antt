@@ -76,15 +76,24 @@ module _ {E : Type 0} (f : Arith E) where
       pub made : (i p : ℕ) → i < q * t → p < q ^ t → erased i ≡ true → score q t erased p ≡ level → i < below → A′ i p ≡ turn f q erased A A i p
       pub kept : (i p : ℕ) → i < q * t → p < q ^ t → (erased i ≡ false) ⊎ ((score q t erased p ≢ level) ⊎ (below ≤ i)) → A′ i p ≡ A i p
 
-  -- the words of one node are codes of what the planes that help it give, up to a place, and the other words are as they were
-  pub record Refilled-to (q t : ℕ) (erased : ℕ → Bool) (node below : ℕ) (before after : List ℕ) : Type 0 where
-    pub made : (p : ℕ) → p < q ^ t → p < below → symbols f (q ^ t) after node p ≡ refill f q t erased node (symbols f (q ^ t) before) p
-    pub codes : (p : ℕ) → p < q ^ t → p < below → laid (q ^ t) after node p < f .size
-    pub others : Others f q t node before after
+  -- some words of one node are codes of what the planes that help it give, and the words of the other nodes are as they were
+  pub record Refilled-where (q t : ℕ) (erased : ℕ → Bool) (node : ℕ) (done : ℕ → Type 0) (before after : List ℕ) : Type 0 where
+    pub made : (p : ℕ) → p < q ^ t → done p → symbols f (q ^ t) after node p ≡ refill f q t erased node (symbols f (q ^ t) before) p
+    pub codes : (p : ℕ) → p < q ^ t → done p → laid (q ^ t) after node p < f .size
+    pub others : Others q t node before after
+
+  -- the symbol that a node of the column gives the lost one, by its own symbol a and its uncoupled symbol b
+  unfoldable pub given : (node helper : ℕ) (a b : E) → E
+  given node helper a b = cond (eqb helper node) b (f .product (f .inverse (f .coupling)) (minus f b a))
+
+  -- one plane gives the words whose companions lie in it, up to a row; the other words are as they were
+  pub record PlaneRefilled (q t : ℕ) (erased : ℕ → Bool) (node plane below : ℕ) (before after : List ℕ) : Type 0 where
+    pub filled : Refilled-where q t erased node (λ p. (companion-place q node p ≡ plane) × (digit q p (column q node) < below)) before after
+    pub kept : (p : ℕ) → p < q ^ t → companion-place q node p ≢ plane → laid (q ^ t) after node p ≡ laid (q ^ t) before node p
 
   -- the erased nodes being those of its column
   pub record NodeRefilled (q t node : ℕ) (before after : List ℕ) : Type 0 where
     pub nodes : List ℕ
     pub rises : rising (q * t) nodes ≡ true
     pub run : Run (column q node * q) nodes q
-    pub filled : Refilled-to q t (among nodes) node (q ^ t) before after
+    pub filled : Refilled-where q t (among nodes) node (λ p. p < q ^ t) before after

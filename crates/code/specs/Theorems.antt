@@ -12,6 +12,10 @@ use Rattle.code.specs.Code.{moment, check, Checks}
 abbrev pub Apart : {E : Type 0} → (point : ℕ → E) (n : ℕ) → Type 0
 Apart point n = (i j : ℕ) → i < n → j < n → i ≢ j → point i ≢ point j
 
+-- a plane helps a node if its digit in the node's column is the node's row
+abbrev pub Helps : (q lost p : ℕ) → Type 0
+Helps q lost p = digit q p (column q lost) ≡ row q lost
+
 module _ {E : Type 0} (f : Arith E) where
   -- x has the moments s, up to the n-th
   abbrev pub Solves : (point x s : ℕ → E) (n : ℕ) → Type 0
@@ -39,10 +43,6 @@ module _ {E : Type 0} (f : Arith E) where
   Some-one =
       (q t m : ℕ) (erased : ℕ → Bool) (A : ℕ → ℕ → E) → 0 < q → q * t ≤ 16 → m ≤ count erased (q * t)
       → (A′ : ℕ → ℕ → E) × Agree q t erased A′ A × Checks f q t m A′
-
-  -- a plane helps a node if its digit in the node's column is the node's row
-  abbrev pub Helps : (q lost p : ℕ) → Type 0
-  Helps q lost p = digit q p (column q lost) ≡ row q lost
 
   -- the checks of the planes that help
   abbrev pub Help-checks : (q t lost : ℕ) (A : ℕ → ℕ → E) → Type 0

@@ -4,17 +4,18 @@ ghost use Prim.Native.Nat.{_*_, _^_, _<_, _≤_};
 ghost use lib.ListN.{length};
 ghost use Rattle.code.specs.Calls.{Rebuilt, good-help, helper-codes};
 ghost use Rattle.code.specs.Code.{laid};
-ghost use Rattle.code.specs.Filling.{refill};
 ghost use Rattle.code.specs.Reading.{symbols};
-ghost use Rattle.code.specs.Steps.{NodeRefilled, Run};
-ghost use Rattle.code.specs.Theorems.{Repair-one, Repair-some};
+ghost use Rattle.code.specs.Steps.{NodeRefilled, PlaneRefilled, Run, given};
+ghost use Rattle.code.specs.Theorems.{Helps, Repair-one, Repair-some};
 ghost use Rattle.shape.specs.Layout.{column as column-of};
 ghost use Rattle.shape.specs.Listing.{outages};
 ghost use Rattle.shape.specs.Outages.{among};
 use crate::arithmetic::difference;
 use crate::arithmetic::element;
+use crate::listing::listed_node;
 use crate::listing::span;
 use crate::planes::plane_solution;
+use crate::symbols::companion_place;
 use crate::symbols::spot;
 use crate::symbols::symbol;
 use crate::symbols::write_symbol;
@@ -54,48 +55,63 @@ fn help_codes<F: Field>(shape: Shape, words: &[u16], node: usize) -> bool
     true
 }
 
-// The symbol of a node at a place, from the plane that helps it there; the list has the nodes of its column.
+// The symbol that a node of the column gives the lost one in a plane, by its uncoupled symbol.
 fn refilled<F: Field>(
     shape: Shape,
-    column: &OutageList,
     words: &[u16],
     node: usize,
-    place: usize,
+    helper: usize,
+    plane: usize,
+    b: F::Element,
 ) -> F::Element
+    requires helper { ⌜ helper < shape .q * shape .t ⌝ }
+    requires plane { ⌜ plane < shape .q ^ shape .t ⌝ }
+    requires room { ⌜ shape .q * shape .t * shape .q ^ shape .t ≤ length (now words) ⌝ }
+    ensures { λ r. ⌜ r ≡ given (F·Field .arith) node helper (symbols (F·Field .arith) (shape .q ^ shape .t) (now (words .entry)) helper plane) b ⌝ }
+{
+    if helper == node {
+        return b;
+    }
+    let a = symbol::<F>(shape, words, helper, plane);
+    F::product(F::inverse(F::coupling_element()), difference::<F>(b, a))
+}
+
+// Fills the words of a node that a plane gives which helps it; the list has the nodes of its column.
+fn refill_from<F: Field>(
+    shape: Shape,
+    column: &OutageList,
+    words: &mut [u16],
+    node: usize,
+    plane: usize,
+)
     requires node { ⌜ node < shape .q * shape .t ⌝ }
-    requires place { ⌜ place < shape .q ^ shape .t ⌝ }
+    requires plane { ⌜ plane < shape .q ^ shape .t ⌝ }
     requires room { ⌜ shape .q * shape .t * shape .q ^ shape .t ≤ length (now words) ⌝ }
     requires count { ⌜ now column .count ≡ shape .q * shape .t ⌝ }
     requires nodes { ⌜ Run (column-of (shape .q) node * shape .q) (outages (now column)) (shape .q) ⌝ }
-    ensures { λ r. ⌜ r ≡ refill (F·Field .arith) (shape .q) (shape .t) (among (outages (now (column .entry)))) node (symbols (F·Field .arith) (shape .q ^ shape .t) (now (words .entry))) place ⌝ }
+    requires helps { ⌜ Helps (shape .q) node plane ⌝ }
+    ensures { λ _. ⌜ PlaneRefilled (F·Field .arith) (shape .q) (shape .t) (among (outages (now (column .entry)))) node plane (shape .q) (now (words .entry)) (now (words .exit)) ⌝ }
 {
-    match shape.companion(node, place) {
-        Ok((c, d)) => {
-            let solution = plane_solution::<F>(shape, column, words, d);
-            let b = element::<F>(solution[shape.row(c)]);
-            if c == node {
-                b
-            } else {
-                F::product(
-                    F::inverse(F::coupling_element()),
-                    difference::<F>(b, symbol::<F>(shape, words, c, d)),
-                )
-            }
-        }
-        Err(_) => F::zero(),
+    let solution = plane_solution::<F>(shape, column, words, plane);
+    for k in 0..shape.rows() {
+        let helper = listed_node(column, k);
+        let place = companion_place(shape, helper, plane);
+        let a = refilled::<F>(shape, words, node, helper, plane, element::<F>(solution[k]));
+        write_symbol::<F>(shape, words, node, place, a);
     }
 }
 
-// Fills the words of a node.
+// Fills the words of a node from the planes that help it.
 fn refill<F: Field>(shape: Shape, words: &mut [u16], node: usize)
     requires node { ⌜ node < shape .q * shape .t ⌝ }
     requires room { ⌜ shape .q * shape .t * shape .q ^ shape .t ≤ length (now words) ⌝ }
     ensures { λ _. ⌜ NodeRefilled (F·Field .arith) (shape .q) (shape .t) node (now (words .entry)) (now (words .exit)) ⌝ }
 {
     let column = span(shape, shape.column(node) * shape.rows());
-    for place in 0..shape.places() {
-        let a = refilled::<F>(shape, &column, words, node, place);
-        write_symbol::<F>(shape, words, node, place, a);
+    for plane in 0..shape.places() {
+        if shape.digit(plane, shape.column(node)) == shape.row(node) {
+            refill_from::<F>(shape, &column, words, node, plane);
+        }
     }
 }
 

@@ -7,6 +7,7 @@ ghost use Rattle.code.specs.Code.{moment, uncoupled};
 ghost use Rattle.code.specs.Filling.{known};
 ghost use Rattle.code.specs.Reading.{symbols};
 ghost use Rattle.code.specs.Steps.{Sound, Wrote};
+ghost use Rattle.shape.specs.Layout.{companion-place};
 ghost use Rattle.shape.specs.Listing.{outages};
 ghost use Rattle.shape.specs.Outages.{among};
 use crate::arithmetic::element;
@@ -53,6 +54,18 @@ pub(crate) fn write_symbol<F: Field>(
 {
     let at = spot(shape, node, place);
     words[at] = F::code(a);
+}
+
+// The place of a node's companion.
+pub(crate) fn companion_place(shape: Shape, node: usize, place: usize) -> usize
+    requires node { ⌜ node < shape .q * shape .t ⌝ }
+    requires place { ⌜ place < shape .q ^ shape .t ⌝ }
+    ensures { λ r. ⌜ r ≡ companion-place (shape .q) node place ⌝ }
+{
+    match shape.companion(node, place) {
+        Ok((_, other)) => other,
+        Err(_) => place,
+    }
 }
 
 // The uncoupled symbol of a node at a place.

@@ -1,23 +1,23 @@
 -- An image is the encoding of the rack that it stands for. Assumes nothing.
 use mathlib.Core.Path.{_≡_, refl, sym, ap, subst, _∙_}
-use mathlib.Core.Bool.{Bool, true, false, cond, _&&_}
-use mathlib.Core.Logic.{_⊎_, inl, inr, ⊎-elim}
+use mathlib.Core.Bool.{Bool, true, false, cond}
+use mathlib.Core.Logic.{_⊎_, ⊎-elim}
 use mathlib.Core.List.{List, [], _∷_, _++_}
-use Prim.Native.Nat.{ℕ, zero, suc, _+_, _-_, _*_, _/_, _%_, _^_, _<_, _≤_}
+use Prim.Native.Nat.{ℕ, zero, suc, _+_, _-_, _*_, _/_, _%_, _<_, _≤_}
 use native.Mathlib.Nat.{suc-mul, zero-mul}
 use native.Mathlib.Omega.{arith}
 use lib.Dec.{ltb, eqb}
-use lib.ListN.{length, getD, set}
+use lib.ListN.{length, getD}
 use Rattle.std.proofs.shelf.Bits.{div-mul-add, mod-mul-add, div-add-mod', div-below, mod-below}
-use Rattle.std.proofs.shelf.Lists.{length-append, getD-append-left, getD-append-right, getD-append-add, getD-past, ext-getD}
-use Rattle.std.proofs.shelf.Tests.{lt-ltb, ltb-true, eq-eqb, eqb-true, cases-lt, cases-eq}
+use Rattle.std.proofs.shelf.Lists.{length-append, getD-append-left, getD-append-add, getD-past, ext-getD}
+use Rattle.std.proofs.shelf.Tests.{lt-ltb, ltb-true, eq-eqb, eqb-true, cases-lt}
 use Rattle.std.proofs.shelf.Ways.{tells}
 use Rattle.refusal.specs.Numbers.{cause-number}
 use Rattle.refusal.specs.declared.reason.Fault.{Fault}
 use Rattle.refusal.specs.declared.reason.Refusal.{Refusal}
 use Rattle.refusal.specs.declared.reason.Refusal.the-variants as reason
 use Rattle.rack.specs.Model.{Model, fitting}
-use Rattle.rack.specs.Image.{image, decoded, record-length, word-bytes, flag-byte, wrong, wrong-at, Formed, joined, record-bytes, record-count, opened, Words16, SameHeld, FirstWrong, Malformed, ImageRefused}
+use Rattle.rack.specs.Image.{image, decoded, record-length, word-bytes, flag-byte, wrong, wrong-at, Formed, joined, record-bytes, record-count, Words16, SameHeld, FirstWrong, Malformed, ImageRefused}
 use Rattle.rack.proofs.Models.{both, place-below, fitting-parts}
 use Rattle.rack.proofs.ImageCounts.{count-is}
 use Rattle.rack.proofs.Images.{inside, word-right}
@@ -190,6 +190,18 @@ pub held-in : (m : Model) (ms : List ℕ) (w : ℕ) (bs : List ℕ) → m .nodes
 held-in m ms w bs few e b =
     subst (λ x. SameHeld m (decoded (record-count x bs) x bs ms)) e
     (subst (λ x. SameHeld m (decoded (record-count (m .places) x) (m .places) x ms)) (sym b) (image-held m ms few))
+
+-- racks of the same counts with one image have the same flags and words
+pub same-image : (a b : Model) → a .nodes ≤ 16 → b .nodes ≡ a .nodes → b .places ≡ a .places → image a ≡ image b → SameHeld a b
+same-image a b few en ew e =
+    let held = image-held a [] few in
+    let held′ = held-in b [] (a .places) (image a) (omega arith) ew e in
+    record {
+      nodes = en;
+      places = ew;
+      flags = λ i hi. sym (held′ .flags i (omega arith)) ∙ held .flags i hi;
+      words = λ i p hi hp. sym (held′ .words i p (omega arith) (omega arith)) ∙ held .words i p hi hp;
+    }
 
 -- an encoding is an image
 module _ (m : Model) (few : m .nodes ≤ 16) (words : Words16 m) where

@@ -1,19 +1,19 @@
 -- What a call on an image rack leaves: the rack, and an image where there was one. Assumes nothing.
-use mathlib.Core.Path.{_≡_, refl, sym, ap, subst, _∙_}
+use mathlib.Core.Path.{_≡_, sym, ap, subst, _∙_}
 use mathlib.Core.Bool.{true, false, cond}
 use mathlib.Core.List.{List}
-use Prim.Native.Nat.{ℕ, _+_, _*_, _/_, _%_, _^_, _<_, _≤_, min}
+use Prim.Native.Nat.{ℕ, _+_, _*_, _/_, _%_, _^_, _<_, min}
 use native.Mathlib.Omega.{arith}
 use lib.Dec.{ltb, eqb}
 use lib.ListN.{length, getD, set}
 use Rattle.std.proofs.shelf.Lists.{length-set}
-use Rattle.std.proofs.shelf.Tests.{lt-ltb, eq-eqb, ltb-true}
+use Rattle.std.proofs.shelf.Tests.{lt-ltb, eq-eqb}
 use Rattle.rack.specs.Model.{after-get, after-put, after-flag, got, with-word}
-use Rattle.rack.specs.Image.{decoded, record-length, record-count, wrong, Formed}
+use Rattle.rack.specs.Image.{decoded, record-length, record-count, Formed}
 use Rattle.std.specs.declared.result.Result.the-variants.{Ok}
 use Rattle.rack.proofs.Models.{after-flag-ok, after-put-ok, after-get-ok, got-ok, both}
 use Rattle.rack.proofs.ImageCounts.{count-within}
-use Rattle.rack.proofs.Images.{image-flag, image-word, image-meter, put-bytes, formed-set, formed-word}
+use Rattle.rack.proofs.Images.{image-flag, image-word, image-meter, formed-set, formed-word}
 
 -- a byte written leaves the count
 same-count : (w : ℕ) (bs : List ℕ) (k b : ℕ) → record-count w (set bs k b) ≡ record-count w bs

@@ -1,6 +1,6 @@
 -- What a write to an image does to the rack that it stands for. Assumes nothing.
 use mathlib.Core.Path.{_≡_, refl, sym, ap, subst, _∙_}
-use mathlib.Core.Bool.{Bool, true, false, cond, _&&_}
+use mathlib.Core.Bool.{false, cond, _&&_}
 use mathlib.Core.Logic.{⊎-elim}
 use mathlib.Core.List.{List}
 use Prim.Native.Nat.{ℕ, _+_, _*_, _/_, _%_, _^_, _<_, _≤_}
@@ -9,10 +9,10 @@ use lib.Dec.{ltb, eqb}
 use lib.ListN.{length, getD, set}
 use Rattle.std.proofs.shelf.Bits.{div-mul-add, mod-mul-add}
 use Rattle.std.proofs.shelf.Lists.{getD-set-same, getD-set-other, length-set}
-use Rattle.std.proofs.shelf.Tests.{lt-ltb, le-ltb, cases-lt, cases-eq, and-left, and-right, ne-eqb}
-use Rattle.rack.specs.Model.{Model, changed, with-flag, with-word, with-draw, after-get, after-put, after-flag}
-use Rattle.rack.specs.Image.{decoded, record-length, record-count, wrong, wrong-at, Formed}
-use Rattle.rack.proofs.Models.{same-model, is-changed, changed-to-same, both, place-row, place-column, place-below}
+use Rattle.std.proofs.shelf.Tests.{lt-ltb, le-ltb, cases-lt, cases-eq, and-right, ne-eqb}
+use Rattle.rack.specs.Model.{changed, with-flag, with-word, with-draw}
+use Rattle.rack.specs.Image.{decoded, record-length, wrong, wrong-at, Formed}
+use Rattle.rack.proofs.Models.{same-model, is-changed, both, place-row, place-column, place-below}
 
 -- place j of record i is inside the image
 pub inside : (n w i j : ℕ) (bs : List ℕ) → n * record-length w ≤ length bs → i < n → j < record-length w → i * record-length w + j < length bs

@@ -1,13 +1,13 @@
 -- Facts on models that each rack's proof uses. Assumes nothing.
-use mathlib.Core.Path.{_≡_, refl, sym, ap, ap₂, _∙_, fun-ext}
+use mathlib.Core.Path.{_≡_, refl, sym, ap, ap₂, _∙_}
 use mathlib.Core.Bool.{Bool, true, false, cond, _&&_}
-use mathlib.Core.Logic.{_⊎_, inl, inr, ⊎-elim}
+use mathlib.Core.Logic.{_⊎_, ⊎-elim}
 use Prim.Native.Nat.{ℕ, zero, suc, _+_, _*_, _/_, _%_, _^_, _<_, _≤_}
 use native.Mathlib.Nat.{add-zero, mod-eq-of-lt}
 use native.Mathlib.Omega.{arith}
-use lib.Dec.{leb, ltb, eqb}
+use lib.Dec.{leb, ltb}
 use Rattle.std.proofs.shelf.Bits.{div-mul-add, mod-mul-add, mul-add-lt}
-use Rattle.std.proofs.shelf.Tests.{lt-ltb, eq-eqb, ne-eqb, cases-eq, cases-lt, and-parts, leb-true, ltb-true}
+use Rattle.std.proofs.shelf.Tests.{lt-ltb, eq-eqb, ne-eqb, cases-eq, and-parts, leb-true, ltb-true}
 use Rattle.std.specs.declared.result.Result.{Result}
 use Rattle.std.specs.declared.result.Result.the-variants.{Ok, Err}
 use Rattle.refusal.specs.declared.reason.Refusal.{Refusal}
@@ -105,12 +105,3 @@ done-was-ok false e = let z : _≡_ {A = ℕ} 0 1 = cc in absurd (omega arith)
 pub done-was-err : (b : Bool) (e : Refusal) → Err e ≡ done b → (b ≡ false) × (e ≡ NoSuchPlace)
 done-was-err true e was = let z : _≡_ {A = ℕ} 0 1 = cc in absurd (omega arith)
 done-was-err false e was = (refl, cc)
-
--- a refused read changes nothing
-pub after-get-err : (m : Model) (i p : ℕ) (e : Refusal) → Err e ≡ got m i p → after-get m i p ≡ m
-after-get-err m i p e was = err-same (within m i p) (m .flags i) (m .words i p) e (with-draw m i) m was
-  where
-    err-same : (a b : Bool) (x : ℕ) (e : Refusal) (u v : Model) → _≡_ {A = Result ℕ Refusal} (Err e) (cond a (cond b (Ok x) (Err NodeOut)) (Err NoSuchPlace)) → cond a (cond b u v) v ≡ v
-    err-same true true x e u v was = let z : _≡_ {A = ℕ} 0 1 = cc in absurd (omega arith)
-    err-same true false x e u v was = refl
-    err-same false b x e u v was = refl

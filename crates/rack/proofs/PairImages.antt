@@ -1,13 +1,11 @@
 -- What two rooms hold is known from what they hold as one. Assumes nothing.
 use mathlib.Core.Path.{_≡_, refl, sym, ap, ap₂, _∙_}
-use mathlib.Core.Bool.{cond}
 use mathlib.Core.List.{List, _∷_, _++_}
 use Prim.Native.Nat.{ℕ, zero, suc, _+_, _-_, _<_, min}
 use native.Mathlib.Omega.{arith}
-use lib.Dec.{ltb}
-use Rattle.std.proofs.shelf.Tests.{lt-ltb, le-ltb, cond-true, cond-false}
 use Rattle.rack.specs.Model.{Model}
-use Rattle.rack.specs.Pair.{paired, followed, first-room, second-room}
+use Rattle.rack.specs.Pair.{paired, first-room, second-room}
+use Rattle.rack.proofs.Pairs.{front-is, back-at}
 use Rattle.rack.specs.Image.{image, record-bytes, word-bytes, flag-byte, joined}
 
 joined-same : (n : ℕ) (f g : ℕ → List ℕ) → ((k : ℕ) → k < n → f k ≡ g k) → joined n f ≡ joined n g
@@ -19,15 +17,6 @@ pub image-same : (m m′ : Model) → m′ .nodes ≡ m .nodes → m′ .places 
 image-same m m′ a b f w =
     ap (λ k. joined k (record-bytes m′)) a
     ∙ joined-same (m .nodes) (record-bytes m′) (record-bytes m) (λ k h. λ j. 0xC5 ∷ 0x9D ∷ k ∷ flag-byte (f k h j) ∷ joined (b j) (λ p. word-bytes (w k h j p)))
-
-module _ {X : Type 0} (n : ℕ) (f g : ℕ → X) where
-  front-is : (k : ℕ) → k < n → followed n f g k ≡ f k
-  front-is k h = cond-true (ltb k n) (f k) (g (k - n)) (lt-ltb k n h)
-
-  back-is : (k : ℕ) → followed n f g (n + k) ≡ g k
-  back-is k =
-      let e : n + k - n ≡ k = omega arith in
-      cond-false (ltb (n + k) n) (f (n + k)) (g (n + k - n)) (le-ltb (n + k) n (omega arith)) ∙ ap g e
 
 -- the rooms of a and b as one are m
 module _ (a b m : Model) (same : a .places ≡ b .places) (as-one : paired a b ≡ m) where
@@ -43,5 +32,5 @@ module _ (a b m : Model) (same : a .places ≡ b .places) (as-one : paired a b �
   pub second-image : image b ≡ image (second-room (a .nodes) (b .nodes) m)
   second-image =
       image-same (second-room (a .nodes) (b .nodes) m) b refl (sym (places-are ∙ same))
-      (λ k h. sym (back-is (a .nodes) (a .flags) (b .flags) k) ∙ ap (λ z. z .flags (a .nodes + k)) as-one)
-      (λ k h. sym (back-is (a .nodes) (a .words) (b .words) k) ∙ ap (λ z. z .words (a .nodes + k)) as-one)
+      (λ k h. sym (back-at (a .nodes) (a .flags) (b .flags) k) ∙ ap (λ z. z .flags (a .nodes + k)) as-one)
+      (λ k h. sym (back-at (a .nodes) (a .words) (b .words) k) ∙ ap (λ z. z .words (a .nodes + k)) as-one)

@@ -3,16 +3,16 @@ use mathlib.Core.Path.{_≡_, refl, sym, ap, _∙_}
 use mathlib.Core.Bool.{Bool, true, false, cond, _&&_}
 use mathlib.Core.Logic.{⊎-elim}
 use mathlib.Core.List.{List}
-use Prim.Native.Nat.{ℕ, _+_, _*_, _%_, _^_, _<_, _≤_}
+use Prim.Native.Nat.{ℕ, _+_, _*_, _<_}
 use native.Mathlib.Omega.{arith}
-use lib.Dec.{ltb, eqb}
+use lib.Dec.{ltb}
 use lib.ListN.{length, getD, set, replicate}
 use Rattle.std.proofs.shelf.Lists.{getD-set-same, getD-set-other, getD-read, getD-replicate, getD-past, length-replicate}
-use Rattle.std.proofs.shelf.Tests.{lt-ltb, le-ltb, cases-lt, and-left, and-right}
-use Rattle.rack.specs.Model.{Model, changed, risen, with-flag, with-word, with-draw, after-get, after-put, after-flag, fresh}
+use Rattle.std.proofs.shelf.Tests.{lt-ltb, le-ltb, cases-lt, and-right}
+use Rattle.rack.specs.Model.{Model, changed, risen, with-flag, with-word, with-draw, after-get, after-flag, fresh}
 use Rattle.rack.specs.Table.{table, blank}
 use Rattle.rack.specs.declared.node.Node.{Node}
-use Rattle.rack.proofs.Models.{same-model, is-changed, changed-to-same, after-get-ok, after-put-ok, after-flag-ok, both, place-row, place-column, place-below}
+use Rattle.rack.proofs.Models.{same-model, is-changed, changed-to-same, after-get-ok, after-flag-ok, both, place-row, place-column, place-below}
 
 -- the word at a place of the table
 pub at-place : (n w : ℕ) (ns : List Node) (ws : List ℕ) (k q : ℕ) → k < n → q < w → table n w ns ws .words k q ≡ getD ws (k * w + q) 0

@@ -1,6 +1,6 @@
 -- What a rack holds, and what its calls answer and leave. Assumes nothing.
 use mathlib.Core.Path.{_≡_}
-use mathlib.Core.Bool.{Bool, true, false, cond, _&&_}
+use mathlib.Core.Bool.{Bool, false, cond, _&&_}
 use Prim.Native.Nat.{ℕ, zero, suc, _+_, _%_, _^_}
 use lib.Dec.{eqb, leb, ltb}
 use Rattle.refusal.specs.declared.reason.Refusal.{Refusal}

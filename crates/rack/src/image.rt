@@ -24,6 +24,7 @@ impl<'a> ImageRack<'a> {
         ensures model { λ r. ⌜ image-model r ≡ opened places (now (bytes .entry)) ⌝ }
         ensures encodes { λ r. ⌜ ((n : ℕ) → n ≤ 16 → Formed n places (now (bytes .entry)) → now (bytes .entry) ≡ image (image-model r)) ⌝ }
         ensures decodes { λ r. ⌜ ((m : Model) → m .nodes ≤ 16 → m .places ≡ places → now (bytes .entry) ≡ image m → SameHeld m (image-model r)) ⌝ }
+        ensures determines { λ r. ⌜ ((a b : Model) → a .nodes ≤ 16 → b .nodes ≡ a .nodes → b .places ≡ a .places → now (bytes .entry) ≡ image a → now (bytes .entry) ≡ image b → SameHeld a b) ⌝ }
     {
         ImageRack {
             bytes,

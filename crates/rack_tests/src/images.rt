@@ -5,6 +5,7 @@ use rack::Rack;
 use rack::check_image;
 use rack::check_images;
 use rack_tools::fill_image;
+use rack_tools::fill_rooms;
 use rack_tools::move_between_images;
 use refusal::Cause;
 use refusal::Fault;
@@ -14,56 +15,15 @@ use refusal::RefusalPartialEq;
 use std::test::*;
 
 // The image of a rack whose nodes are out and whose words are 0.
-const BLANK: [u8; 48] = [
-    0xC5,
-    0x9D,
-    0,
-    0,
-    0,
-    0,
-    0,
-    0,
-    0,
-    0,
-    0,
-    0,
-    0xC5,
-    0x9D,
-    1,
-    0,
-    0,
-    0,
-    0,
-    0,
-    0,
-    0,
-    0,
-    0,
-    0xC5,
-    0x9D,
-    2,
-    0,
-    0,
-    0,
-    0,
-    0,
-    0,
-    0,
-    0,
-    0,
-    0xC5,
-    0x9D,
-    3,
-    0,
-    0,
-    0,
-    0,
-    0,
-    0,
-    0,
-    0,
-    0,
-];
+fn blank() -> [u8; 48] {
+    let mut bytes = [0; 48];
+    for node in 0..4 {
+        bytes[12 * node] = 0xC5;
+        bytes[12 * node + 1] = 0x9D;
+        bytes[12 * node + 2] = node as u8;
+    }
+    bytes
+}
 
 fn fault(room: u8, record: usize, byte: usize, cause: Cause) -> Result<(), Refusal> {
     Err(Refusal::Image(Fault {
@@ -76,27 +36,27 @@ fn fault(room: u8, record: usize, byte: usize, cause: Cause) -> Result<(), Refus
 
 #[test]
 fn length_comes_first() -> Result<(), Fail> {
-    check_eq(check_image(&BLANK, 4, 4), Ok(()))?;
+    let mut bytes = blank();
+    check_eq(check_image(&bytes, 4, 4), Ok(()))?;
     check_eq(
-        check_image(&BLANK[0..47], 4, 4),
+        check_image(&bytes[0..47], 4, 4),
         fault(0, 0, 0, Cause::Length),
     )?;
-    let mut bytes = BLANK;
     bytes[0] = 0;
     check_eq(
         check_image(&bytes[0..47], 4, 4),
         fault(0, 0, 0, Cause::Length),
     )?;
-    check_eq(check_image(&BLANK, 0, 4), Err(Refusal::Size))?;
-    check_eq(check_image(&BLANK, 17, 4), Err(Refusal::Size))?;
-    check_eq(check_image(&BLANK, 4, 0), Err(Refusal::Size))?;
-    check_eq(check_image(&BLANK, 4, 257), Err(Refusal::Size))?;
-    check_eq(check_image(&BLANK, 4, 256), fault(0, 0, 0, Cause::Length))
+    check_eq(check_image(&bytes, 0, 4), Err(Refusal::Size))?;
+    check_eq(check_image(&bytes, 17, 4), Err(Refusal::Size))?;
+    check_eq(check_image(&bytes, 4, 0), Err(Refusal::Size))?;
+    check_eq(check_image(&bytes, 4, 257), Err(Refusal::Size))?;
+    check_eq(check_image(&bytes, 4, 256), fault(0, 0, 0, Cause::Length))
 }
 
 // The blank image with one byte set has this fault.
 fn wrong_at(byte: usize, value: u8, record: usize, cause: Cause) -> Result<(), Fail> {
-    let mut bytes = BLANK;
+    let mut bytes = blank();
     check(byte < 48)?;
     bytes[byte] = value;
     check_eq(check_image(&bytes, 4, 4), fault(0, record, byte, cause))
@@ -117,25 +77,26 @@ fn each_cause_in_each_record() -> Result<(), Fail> {
 
 #[test]
 fn first_wrong_byte_counts() -> Result<(), Fail> {
-    let mut bytes = BLANK;
+    let right = blank();
+    let mut bytes = blank();
     bytes[3] = 2;
     bytes[12] = 0;
     check_eq(check_image(&bytes, 4, 4), fault(0, 0, 3, Cause::Flag))?;
     check_eq(
-        check_images(&BLANK, &bytes, 4, 4, 4),
+        check_images(&right, &bytes, 4, 4, 4),
         fault(1, 0, 3, Cause::Flag),
     )?;
     check_eq(
         check_images(&bytes, &bytes, 4, 4, 4),
         fault(0, 0, 3, Cause::Flag),
     )?;
-    check_eq(check_images(&bytes, &BLANK, 4, 0, 4), Err(Refusal::Size))?;
-    check_eq(check_images(&BLANK, &BLANK, 4, 4, 4), Ok(()))
+    check_eq(check_images(&bytes, &right, 4, 0, 4), Err(Refusal::Size))?;
+    check_eq(check_images(&right, &right, 4, 4, 4), Ok(()))
 }
 
 #[test]
 fn calls_reach_the_bytes() -> Result<(), Fail> {
-    let mut bytes = BLANK;
+    let mut bytes = blank();
     let mut rack = ImageRack::over(&mut bytes, 4);
     check(rack.nodes() == 4)?;
     check(rack.put(1, 3, 0x1234) == Ok(()))?;
@@ -151,8 +112,8 @@ fn calls_reach_the_bytes() -> Result<(), Fail> {
 
 #[test]
 fn lent_images() -> Result<(), Fail> {
-    let mut first = BLANK;
-    let mut second = BLANK;
+    let mut first = blank();
+    let mut second = blank();
     check_eq(fill_image(&mut first, 4, 4, 2, &[1, 2, 3, 0xFFFF]), Ok(()))?;
     check(first[27] == 1 && first[28] == 1 && first[34] == 0xFF && first[35] == 0xFF)?;
     check_eq(
@@ -172,4 +133,20 @@ fn lent_images() -> Result<(), Fail> {
         Ok(()),
     )?;
     check(first[27] == 0 && second[3] == 1 && second[10] == 0xFF)
+}
+
+#[test]
+fn two_rooms_as_one() -> Result<(), Fail> {
+    let mut first = blank();
+    let mut second = blank();
+    check_eq(
+        fill_rooms(&mut first, &mut second, 4, 4, 4, 5, &[9, 8, 7, 6]),
+        Ok(()),
+    )?;
+    check(first == blank())?;
+    check(second[15] == 1 && second[16] == 9 && second[22] == 6)?;
+    check_eq(
+        fill_rooms(&mut first, &mut second, 4, 4, 4, 8, &[9, 8, 7, 6]),
+        Err(Refusal::NoSuchPlace),
+    )
 }

@@ -1,17 +1,15 @@
 -- What the calls on whole nodes answer and leave where all fits, over models alone. Assumes nothing.
 use mathlib.Core.Path.{_≡_, refl, sym, ap, ap₂, _∙_}
-use mathlib.Core.Bool.{Bool, true, false, cond, _&&_}
+use mathlib.Core.Bool.{Bool, true, false, _&&_}
 use mathlib.Core.List.{List}
 use Prim.Native.Nat.{ℕ, _<_}
-use native.Mathlib.Omega.{arith}
 use lib.Dec.{ltb, eqb}
 use lib.ListN.{length, getD}
 use Rattle.std.proofs.shelf.Counted.{fill-by-all}
 use Rattle.std.proofs.shelf.Tests.{lt-ltb, eq-eqb, cond-true, and-from}
 use Rattle.std.specs.declared.result.Result.{Result}
-use Rattle.std.specs.declared.result.Result.the-variants.{Ok, Err}
+use Rattle.std.specs.declared.result.Result.the-variants.{Ok}
 use Rattle.refusal.specs.declared.reason.Refusal.{Refusal}
-use Rattle.refusal.specs.declared.reason.Refusal.the-variants.{NoSuchPlace, NodeOut}
 use Rattle.rack.specs.Model.{Model, with-flag, node-within, standing, done, after-flag}
 use Rattle.rack.proofs.Models.{after-flag-ok}
 use Rattle.rack_tools.specs.Filled.{with-words, with-draws, filled, listed, row, sized, movable, drawn, copied, moved-from, after-fill, after-copy, after-move-from, after-move-to}

@@ -1,40 +1,27 @@
 -- What lent bytes hold once the rack over them is let go. Assumes nothing.
-use mathlib.Core.Path.{_≡_, refl, sym, ap, ap₂, subst, _∙_}
+use mathlib.Core.Path.{_≡_, refl, sym, ap, ap₂, _∙_}
 use mathlib.Core.Bool.{Bool, true, false, cond, _&&_}
-use mathlib.Core.Logic.{inl, inr}
+use mathlib.Core.Logic.{inr}
 use mathlib.Core.List.{List}
-use Prim.Native.Nat.{ℕ, _+_, _*_, _≤_}
+use Prim.Native.Nat.{ℕ}
 use native.Mathlib.Omega.{arith}
-use lib.Dec.{leb}
 use lib.ListN.{length}
-use Rattle.std.proofs.shelf.Tests.{and-from, and-parts}
+use Rattle.std.proofs.shelf.Tests.{and-from}
 use denote.Ref.{now}
 use Rattle.std.specs.Results.{Cases}
 use Rattle.std.specs.declared.result.Result.{Result}
 use Rattle.std.specs.declared.result.Result.the-variants.{Ok, Err}
 use Rattle.refusal.specs.declared.reason.Refusal.{Refusal}
-use Rattle.refusal.specs.declared.reason.Refusal.the-variants.{NoSuchPlace, NodeOut}
 use Rattle.rack.specs.declared.image.ImageRack.{ImageRack}
 use Rattle.rack.specs.Model.{Model, fitting, done}
-use Rattle.rack.specs.Image.{image, image-model, record-length, opened, Formed, rooms-fit}
+use Rattle.rack.specs.Image.{image, image-model, opened, Formed, rooms-fit}
 use Rattle.rack.proofs.Models.{done-was-ok, done-was-err, fitting-parts}
 use Rattle.rack.specs.Pair.{paired, first-room, second-room}
-use Rattle.rack.proofs.Encoding.{formed-image}
+use Rattle.rack.proofs.LentImages.{lent-before, lent-after, lent-counts, few-first, few-second}
 use Rattle.rack.proofs.ImageCounts.{count-is}
 use Rattle.rack.proofs.PairImages.{first-image, second-image}
 use Rattle.rack_tools.specs.Filled.{sized, listed, filled, drawn, movable, moved-from, after-fill, after-move-from, after-move-to}
 use Rattle.rack_tools.specs.Lent.{NodeFilled, FillRefused, NodeMoved, MoveRefused, opened-pair, RoomsFilled, RoomsRefused}
-
--- an image that stays one is the encoding of its rack: s is the rack on the bytes as they were lent, t the same rack later
-module _ (s t : ImageRack) (n w : ℕ) (bs : List ℕ) (few : n ≤ 16) (formed : Formed n w bs) (lent : now (s .bytes) ≡ bs) (held : image-model s ≡ opened w bs) where
-  was-formed : Formed n (s .places) (now (s .bytes))
-  was-formed = subst (λ x. Formed n x (now (s .bytes))) (sym (ap (λ m. m .places) held)) (subst (Formed n w) (sym lent) formed)
-
-  pub lent-before : bs ≡ image (image-model s)
-  lent-before = sym lent ∙ formed-image n (s .places) (now (s .bytes)) (s .meters) few was-formed
-
-  pub lent-after : ((k : ℕ) → Formed k (s .places) (now (s .bytes)) → Formed k (t .places) (now (t .bytes))) → now (t .bytes) ≡ image (image-model t)
-  lent-after stays = formed-image n (t .places) (now (t .bytes)) (t .meters) few (stays n was-formed)
 
 -- a node of lent bytes was filled, or not
 pub fill-cases : (m m′ : Model) (bs bs′ ws : List ℕ) (n w i : ℕ) (r : Result (Unit {0}) Refusal) → fitting n w ≡ true → Formed n w bs → m ≡ opened w bs → bs ≡ image m → bs′ ≡ image m′ → r ≡ done (sized m i (length ws)) → m′ ≡ after-fill m i ws
@@ -92,15 +79,9 @@ pub lent-filled : (s t : ImageRack) (n w : ℕ) (bs bs′ ws : List ℕ) (i : �
     → Cases r (λ _. NodeFilled n w bs i ws bs′) (λ e. (bs′ ≡ bs) × FillRefused n w bs i (length ws) e)
 lent-filled s t n w bs bs′ ws i r taken lent held stays ends was left =
     let few = fitting-parts n w (taken .0) .0 in
-    fill-cases (image-model s) (image-model t) bs bs′ ws n w i r (taken .0) (taken .1) held (lent-before s t n w bs few (taken .1) lent held) (ends ∙ lent-after s t n w bs few (taken .1) lent held stays) was left
+    fill-cases (image-model s) (image-model t) bs bs′ ws n w i r (taken .0) (taken .1) held (lent-before s n w bs few (taken .1) lent held) (ends ∙ lent-after s n w bs few (taken .1) lent held t stays) was left
 
--- each room of two that fit has few nodes
-few-first : (n m w : ℕ) → rooms-fit n m w ≡ true → n ≤ 16
-few-first n m w fit = fitting-parts n w (and-parts (fitting n w) (fitting m w) (and-parts (fitting n w && fitting m w) (leb (n + m) 16) fit .0) .0) .0
-
-few-second : (n m w : ℕ) → rooms-fit n m w ≡ true → m ≤ 16
-few-second n m w fit = fitting-parts m w (and-parts (fitting n w) (fitting m w) (and-parts (fitting n w && fitting m w) (leb (n + m) 16) fit .0) .1) .0
-
+-- a node was moved from the rack that was s to the one that was u
 module _ (s t u v : ImageRack) (n m w : ℕ) (xs xs′ ys ys′ : List ℕ) (i j : ℕ) (taken : (rooms-fit n m w ≡ true) × Formed n w xs × Formed m w ys) (lent-x : now (s .bytes) ≡ xs) (held-x : image-model s ≡ opened w xs) (lent-y : now (u .bytes) ≡ ys) (held-y : image-model u ≡ opened w ys) where
   pub lent-moved : ((k : ℕ) → Formed k (s .places) (now (s .bytes)) → Formed k (t .places) (now (t .bytes))) → ((k : ℕ) → Formed k (u .places) (now (u .bytes)) → Formed k (v .places) (now (v .bytes))) → xs′ ≡ now (t .bytes) → ys′ ≡ now (v .bytes) → image-model t ≡ after-move-from (image-model s) i (image-model u) j → image-model v ≡ after-move-to (image-model s) i (image-model u) j
       → (r : Result (Unit {0}) Refusal) → r ≡ drawn (movable (image-model s) i (image-model u) j) (image-model s .flags i)
@@ -110,8 +91,8 @@ module _ (s t u v : ImageRack) (n m w : ℕ) (xs xs′ ys ys′ : List ℕ) (i j
       let few-x = few-first n m w (taken .0) in
       let few-y = few-second n m w (taken .0) in
       move-cases (image-model s) (image-model t) (image-model u) (image-model v) xs xs′ ys ys′ n m w i j (taken .0) (taken .1) (taken .2) held-x held-y
-      (lent-before s t n w xs few-x (taken .1) lent-x held-x) (ends-x ∙ lent-after s t n w xs few-x (taken .1) lent-x held-x stays-x)
-      (lent-before u v m w ys few-y (taken .2) lent-y held-y) (ends-y ∙ lent-after u v m w ys few-y (taken .2) lent-y held-y stays-y)
+      (lent-before s n w xs few-x (taken .1) lent-x held-x) (ends-x ∙ lent-after s n w xs few-x (taken .1) lent-x held-x t stays-x)
+      (lent-before u m w ys few-y (taken .2) lent-y held-y) (ends-y ∙ lent-after u m w ys few-y (taken .2) lent-y held-y v stays-y)
       source sink r was
 
 -- a node of the two rooms as one was filled, or not: a and b are the rooms as they were lent, a′ and b′ later
@@ -157,23 +138,15 @@ module _ (a a′ b b′ : Model) (xs xs′ ys ys′ ws : List ℕ) (n m w i : �
 
 -- the same of racks over the bytes
 module _ (s t u v : ImageRack) (n m w : ℕ) (xs xs′ ys ys′ ws : List ℕ) (i : ℕ) (taken : (rooms-fit n m w ≡ true) × Formed n w xs × Formed m w ys) (lent-x : now (s .bytes) ≡ xs) (held-x : image-model s ≡ opened w xs) (lent-y : now (u .bytes) ≡ ys) (held-y : image-model u ≡ opened w ys) where
-  -- the counts of a room are those that it was opened with
-  counts-stay : (s t : ImageRack) (n : ℕ) (bs : List ℕ) → n ≤ 16 → Formed n w bs → now (s .bytes) ≡ bs → image-model s ≡ opened w bs → length (now (t .bytes)) ≡ length (now (s .bytes)) → t .places ≡ s .places → (image-model t .nodes ≡ n) × (t .places ≡ w)
-  counts-stay s t n bs few formed lent held long same =
-      let p : t .places ≡ w = same ∙ ap (λ z. z .places) held in (
-        count-is n (t .places) (now (t .bytes)) few (long ∙ ap length lent ∙ formed .long ∙ ap (λ q. n * record-length q) (sym p)),
-        p,
-      )
-
   pub lent-rooms : (length (now (t .bytes)) ≡ length (now (s .bytes))) × (t .places ≡ s .places) × ((k : ℕ) → Formed k (s .places) (now (s .bytes)) → Formed k (t .places) (now (t .bytes))) → (length (now (v .bytes)) ≡ length (now (u .bytes))) × (v .places ≡ u .places) × ((k : ℕ) → Formed k (u .places) (now (u .bytes)) → Formed k (v .places) (now (v .bytes))) → xs′ ≡ now (t .bytes) → ys′ ≡ now (v .bytes) → paired (image-model t) (image-model v) ≡ after-fill (paired (image-model s) (image-model u)) i ws
       → (r : Result (Unit {0}) Refusal) → r ≡ done (sized (paired (image-model s) (image-model u)) i (length ws))
       → Cases r (λ _. RoomsFilled n m w xs ys i ws xs′ ys′) (λ e. (xs′ ≡ xs) × (ys′ ≡ ys) × RoomsRefused n m w xs ys i (length ws) e)
   lent-rooms stays-x stays-y ends-x ends-y left r was =
       let few-x = few-first n m w (taken .0) in
       let few-y = few-second n m w (taken .0) in
-      let counts-x = counts-stay s t n xs few-x (taken .1) lent-x held-x (stays-x .0) (stays-x .1) in
-      let counts-y = counts-stay u v m ys few-y (taken .2) lent-y held-y (stays-y .0) (stays-y .1) in
+      let counts-x = lent-counts s n w xs few-x (taken .1) lent-x held-x t (stays-x .0) (stays-x .1) in
+      let counts-y = lent-counts u m w ys few-y (taken .2) lent-y held-y v (stays-y .0) (stays-y .1) in
       rooms-cases (image-model s) (image-model t) (image-model u) (image-model v) xs xs′ ys ys′ ws n m w i (taken .0) (taken .1, taken .2) held-x held-y (counts-x .0) (counts-y .0) (counts-x .1) (counts-y .1)
-      (lent-before s t n w xs few-x (taken .1) lent-x held-x) (ends-x ∙ lent-after s t n w xs few-x (taken .1) lent-x held-x (stays-x .2))
-      (lent-before u v m w ys few-y (taken .2) lent-y held-y) (ends-y ∙ lent-after u v m w ys few-y (taken .2) lent-y held-y (stays-y .2))
+      (lent-before s n w xs few-x (taken .1) lent-x held-x) (ends-x ∙ lent-after s n w xs few-x (taken .1) lent-x held-x t (stays-x .2))
+      (lent-before u m w ys few-y (taken .2) lent-y held-y) (ends-y ∙ lent-after u m w ys few-y (taken .2) lent-y held-y v (stays-y .2))
       left r was

@@ -1,25 +1,16 @@
 -- The steps of loops over the places of a node, over models alone. Assumes nothing.
 use mathlib.Core.Path.{_≡_, refl, sym, ap, fun-ext, _∙_}
-use mathlib.Core.Bool.{Bool, true, false, cond, _&&_}
+use mathlib.Core.Bool.{true, cond}
 use mathlib.Core.Logic.{⊎-elim}
-use mathlib.Core.List.{List}
-use Prim.Native.Nat.{ℕ, _+_, _%_, _^_, _<_, _≤_}
+use Prim.Native.Nat.{ℕ, _+_, _%_, _^_, _<_}
 use native.Mathlib.Numerals.{add-one}
 use native.Mathlib.Omega.{arith}
-use lib.Dec.{ltb, eqb}
-use Rattle.std.proofs.shelf.Tests.{lt-ltb, le-ltb, cases-lt, cond-true, cond-false, both-ways}
-use Rattle.std.specs.declared.result.Result.the-variants.{Ok, Err}
-use Rattle.refusal.specs.declared.reason.Refusal.{Refusal}
-use Rattle.rack.specs.Model.{Model, changed, risen, with-word, with-flag, with-draw, within, done, got, after-get, after-put, after-flag}
-use Rattle.rack.proofs.Models.{same-model, is-changed, changed-same, changed-to-same, changed-twice, after-get-ok, after-put-ok, after-flag-ok, got-was-ok, got-was-err, is-within, done-was-err}
-use Rattle.rack_tools.specs.Filled.{with-words, with-draws, filled}
-
--- no word written yet
-pub words-none : (m : Model) (i : ℕ) (f : ℕ → ℕ) → m ≡ with-words m i f 0
-words-none m i f =
-    same-model m (with-words m i f 0) refl refl (λ k. refl)
-    (λ k q. sym (ap (λ (g : ℕ → ℕ). g q) (changed-to-same (m .words) i (λ p. cond (ltb p 0) (f p) (m .words i p)) (fun-ext (λ p. sym (ap (λ b. cond b (f p) (m .words i p)) (le-ltb p 0 (omega arith))))) k)))
-    (λ k. refl)
+use lib.Dec.{ltb}
+use Rattle.std.proofs.shelf.Tests.{lt-ltb, le-ltb, cases-lt, cond-true, cond-false}
+use Rattle.std.specs.declared.result.Result.the-variants.{Ok}
+use Rattle.rack.specs.Model.{Model, changed, risen, with-word, with-draw, got, after-get, after-put}
+use Rattle.rack.proofs.Models.{same-model, is-changed, changed-same, changed-twice, after-get-ok, after-put-ok, got-was-ok}
+use Rattle.rack_tools.specs.Filled.{with-words, with-draws}
 
 next-word : (n q : ℕ) (g f : ℕ → ℕ) → changed (λ p. cond (ltb p n) (f p) (g p)) n (f n) q ≡ cond (ltb q (n + 1)) (f q) (g q)
 next-word n q g f =
@@ -40,10 +31,6 @@ with-more m i n f =
     (ap (λ (g : ℕ → ℕ). changed g n (f n)) (changed-same (m .words) i (λ p. cond (ltb p n) (f p) (m .words i p))) ∙ fun-ext (λ p. next-word n p (m .words i) f))))
     (λ k. refl)
 
--- no draw yet
-pub draws-none : (m : Model) (i : ℕ) → m ≡ with-draws m i 0
-draws-none m i = same-model m (with-draws m i 0) refl refl (λ k. refl) (λ k q. refl) (λ k. sym (changed-to-same (m .meters) i (m .meters i) refl k))
-
 drawn-more : (m : Model) (i n : ℕ) → with-draw (with-draws m i n) i ≡ with-draws m i (n + 1)
 drawn-more m i n =
     same-model (with-draw (with-draws m i n) i) (with-draws m i (n + 1)) refl refl (λ k. refl) (λ k q. refl)
@@ -59,10 +46,6 @@ module _ (m : Model) (i p : ℕ) (hi : i < m .nodes) (hp : p < m .places) where
     pub words-more : (y : Model) → y ≡ after-put x i p (f p) → y ≡ with-words m i f (p + 1)
     words-more y left = left ∙ ap (λ z. after-put z i p (f p)) at ∙ after-put-ok (with-words m i f p) i p (f p) hi hp ∙ with-more m i p f
 
-    -- it is not refused
-    pub words-go : (e : Refusal) → Err e ≡ done (within x i p) → ⊥
-    words-go e was = both-ways (within x i p) (done-was-err (within x i p) e was .0) (ap (λ z. within z i p) at ∙ is-within m i p hi hp)
-
   -- x is the rack drawn p times at a standing node
   module _ (up : m .flags i ≡ true) (x : Model) (at : x ≡ with-draws m i p) where
     -- one draw more
@@ -72,7 +55,3 @@ module _ (m : Model) (i p : ℕ) (hi : i < m .nodes) (hp : p < m .places) where
     -- the word that is drawn
     pub draws-word : (w : ℕ) → Ok w ≡ got x i p → w ≡ m .words i p
     draws-word w was = got-was-ok m i p w (was ∙ ap (λ z. got z i p) at) .3
-
-    -- it is not refused
-    pub draws-go : (e : Refusal) → Err e ≡ got x i p → ⊥
-    draws-go e was = got-was-err m i p e (was ∙ ap (λ z. got z i p) at) hi hp up

@@ -9,6 +9,7 @@ use Rattle.shape.proofs.Bounds.{Shaped, rows-positive}
 use Rattle.std.proofs.shelf.Tests.{eqb-true, eq-eqb}
 use Rattle.code.specs.Code.{Words, Codeword, elements}
 use Rattle.code.specs.Calls.{Refills}
+use Rattle.code.specs.Theorems.{Only-one, Repair-one}
 use Rattle.code.proofs.Main.{only-one-stands, repair-one-stands}
 
 module _ {E : Type 0} (f : Arith E) (q t : ℕ) where
@@ -31,14 +32,16 @@ module _ {E : Type 0} (f : Arith E) (laws : Laws f) (q t : ℕ) (shape : Shaped 
   same-code a b la lb e = sym (laws .code-of a la) ∙ ap (f .code) e ∙ laws .code-of b lb
 
   pub only-codeword : Only-codeword f q t
+  unfolding Only-one
   only-codeword v w erased few cv cw alike i p li lp =
       same-code (v i p) (w i p) (cv .codes i p li lp) (cw .codes i p li lp)
       (only-one-stands f laws q t q erased (elements f v) (elements f w) (rows-positive shape) (shape .few) few (cv .checks) (cw .checks)
       (λ j r lj lr e. ap (f .of) (alike j r lj lr e)) i p li lp)
 
   pub only-help : Only-help f q t
-  only-help v w i li rv rw alike p lp =
-      same-code (v i p) (w i p) (rv .codes p lp) (rw .codes p lp)
+  unfolding Repair-one
+  only-help v w i li rv rw′ alike p lp =
+      same-code (v i p) (w i p) (rv .codes p lp) (rw′ .codes p lp)
       (repair-one-stands f laws q t i (elements f v) (elements f w) (rows-positive shape) (shape .few) li
-      (λ r e lr le h. rv .checks r e lr le (eq-eqb (digit q r (column q i)) (row q i) h)) (λ r e lr le h. rw .checks r e lr le (eq-eqb (digit q r (column q i)) (row q i) h))
+      (λ r e lr le h. rv .checks r e lr le (eq-eqb (digit q r (column q i)) (row q i) h)) (λ r e lr le h. rw′ .checks r e lr le (eq-eqb (digit q r (column q i)) (row q i) h))
       (λ j r lj lr h ne. ap (f .of) (alike j r lj lr (eq-eqb (digit q r (column q i)) (row q i) h) ne)) p lp)

@@ -26,7 +26,7 @@ use Rattle.vault.specs.declared.answer.Answer.{Answer}
 use Rattle.vault.specs.Calls.{wrong-size, short, out-count, Now, Drop, Alter, Store, Repair, Recover, Read, alter-refusal, repair-refusal, recover-refusal, NotRepaired, NotRecovered, repair-meters, recover-meters}
 use Rattle.vault.specs.History.{Call, store, drop, alter, repair, recover, read, Event, Meets, Led, opened, then, message-after, altered-after, last-message, altered}
 use Rattle.vault.proofs.Refusing.{first-none, right-size}
-use Rattle.vault.proofs.Tallies.{count-two}
+use Rattle.vault.proofs.Tallies.{others-stand}
 
 -- a flag that stands after a node was taken out stood before
 stood : (b x : Bool) → cond b false x ≡ true → x ≡ true
@@ -120,16 +120,6 @@ module _ {E : Type 0} (f : Arith E) (q t : ℕ) (only-help : Only-help f q t) wh
       })
   after-alter m m′ i p w (Err e) last b k s = unchanged k (s .1)
 
-  -- past the tests of a repair all other nodes stand
-  pub others-stand : (m : Model) (i : ℕ) → i < q * t → m .flags i ≡ false → out-count q t m ≤ 1 → (j : ℕ) → j < q * t → (j ≡ i → ⊥) → m .flags j ≡ true
-  others-stand m i li out few j lj ne = go (cases-bool (m .flags j))
-    where
-      go : (m .flags j ≡ true) ⊎ (m .flags j ≡ false) → m .flags j ≡ true
-      go (inl e) = e
-      go (inr e) =
-          let c = count-two (λ n. not (m .flags n)) (q * t) j i lj li ne (ap not e) (ap not out) in
-          absurd (omega arith)
-
   -- a codeword meets the checks of the planes that help
   pub codeword-refills : (w : Words) (i : ℕ) → i < q * t → Codeword f q t w → Refills f q t w i
   codeword-refills w i li cw = record { codes = λ p lp. cw .codes i p li lp; checks = λ p e lp le h. cw .checks p e lp le }
@@ -171,7 +161,7 @@ module _ {E : Type 0} (f : Arith E) (q t : ℕ) (only-help : Only-help f q t) wh
         tests = repair-tests none
 
         others : (j : ℕ) → j < q * t → (j ≡ i → ⊥) → m .flags j ≡ true
-        others = others-stand m i (tests .0) (tests .1) (tests .2)
+        others = others-stand q t m i (tests .0) (tests .1) (tests .2)
 
         code : (message : List ℕ) → last ≡ Some message → (j p : ℕ) → j < q * t → p < q ^ t → (j ≡ i) ⊎ (j ≡ i → ⊥) → m′ .words j p < f .size
         code message e j p lj lp (inl o) =

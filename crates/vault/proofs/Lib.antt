@@ -7,3 +7,8 @@ pub mod Listing
 pub mod Gathering
 pub mod Scattering
 pub mod Fetching
+pub mod Carrying
+pub mod Recovering
+pub mod Storing
+pub mod Repairing
+pub mod HelperPlaces

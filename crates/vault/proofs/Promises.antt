@@ -11,6 +11,7 @@ use lib.ListN.{length, getD}
 use Rattle.std.proofs.shelf.Tests.{cases-eq, cases-bool, not-false, not-true, ltb-false, le-ltb, lt-ltb, eqb-true, eq-eqb, cond-true, cond-false, ne-eqb, true≢false}
 use Rattle.field.specs.Field.{Arith}
 use Rattle.shape.specs.Outages.{count, every}
+use Rattle.shape.proofs.Counts.{count-none}
 use Rattle.shape.proofs.Every.{every-at, every-from}
 use Rattle.code.specs.Code.{Words, Codeword}
 use Rattle.code.specs.Calls.{Agrees, Encodes, good-help, good-standing}
@@ -28,9 +29,11 @@ use Rattle.vault.specs.declared.answer.Answer.{Answer}
 use Rattle.vault.specs.Calls.{wrong-size, short, out-count, Now, Repair, Recover, Read, repair-refusal, recover-refusal, repair-meters, NotRepaired, NotRecovered, Unrecovered}
 use Rattle.vault.specs.History.{Event, After, altered, last-message, differs, differ-count, RecoverPromise, RecoverHolds, RepairPromise, RepairHolds, ReadPromise}
 use Rattle.vault.proofs.Fetching.{data-node, among-all}
-use Rattle.vault.proofs.Refusing.{first-none, first-pass, sized}
-use Rattle.vault.proofs.Tallies.{count-none, count-zero, count-either}
-use Rattle.vault.proofs.Invariant.{Kept, keeps, others-stand, refilled}
+use Rattle.vault.proofs.Recovering.{recover-none}
+use Rattle.vault.proofs.Refusing.{first-none, sized}
+use Rattle.vault.proofs.Repairing.{repair-none}
+use Rattle.vault.proofs.Tallies.{count-zero, count-either, others-stand}
+use Rattle.vault.proofs.Invariant.{Kept, keeps, refilled}
 
 never : {e : Refusal} {a : Answer} → _≡_ {A = Result Answer Refusal} (Err e) (Ok a) → ⊥
 never e = let z : _≡_ {A = ℕ} 0 1 = cc in omega arith
@@ -73,12 +76,6 @@ module _ {E : Type 0} (f : Arith E) (q t : ℕ) (only-help : Only-help f q t) (o
         let up : m .flags i ≡ true = not-false (m .flags i) (n .0) in
         agrees .same i p li lp up ∙ alike i up (n .1) p lp)
 
-  -- a recover with a long enough space, where few nodes are out, passes the tests
-  recover-none : (m : Model) (space : ℕ) → m .nodes ≡ q * t → m .places ≡ q ^ t → short q t space ≡ false → out-count q t m ≤ q → recover-refusal f q t m space ≡ None
-  recover-none m space a b s few =
-      first-pass (wrong-size q t m) Size _ (sized q t m a b) ∙ first-pass (short q t space) WorkSpace _ s
-      ∙ first-pass (ltb q (out-count q t m)) TooManyOut None (le-ltb q (out-count q t m) few)
-
   standing-codes : (m : Model) → ((i p : ℕ) → i < q * t → p < q ^ t → m .flags i ≡ true → m .words i p < f .size) → good-standing f q t (m .flags) (m .words) ≡ true
   standing-codes m codes = every-from (λ i. cond (m .flags i) (every (λ p. ltb (m .words i p) (f .size)) (q ^ t)) true) (q * t) (λ i li. go i li (cases-bool (m .flags i)))
     where
@@ -111,17 +108,11 @@ module _ {E : Type 0} (f : Arith E) (q t : ℕ) (only-help : Only-help f q t) (o
       k = keeps f q t only-help (after .led)
 
       unrefused : NotRecovered f q t m e m′ None
-      unrefused = subst (λ o. NotRecovered f q t m e m′ o) (recover-none m space (k .nodes) (k .places) room (omega arith)) s
+      unrefused = subst (λ o. NotRecovered f q t m e m′ o) (recover-none f q t m space (k .nodes) (k .places) room (omega arith)) s
 
       go : (b : Bool) → b ≡ true → Unrecovered f q t m e b → differ-count f q t m w ≡ 0 → ⊥
       go true g u z = u .1 w (none-differ m w (after .encodes .codeword) z)
       go false g u z = true≢false (sym g)
-
-  repair-none : (m : Model) (i space : ℕ) → m .nodes ≡ q * t → m .places ≡ q ^ t → short q t space ≡ false → i < q * t → m .flags i ≡ false → out-count q t m ≡ 1 → repair-refusal f q t m i space ≡ None
-  repair-none m i space a b s li out one =
-      first-pass (wrong-size q t m) Size _ (sized q t m a b) ∙ first-pass (short q t space) WorkSpace _ s
-      ∙ first-pass (not (node-within m i)) NoSuchPlace _ (ap not (lt-ltb i (m .nodes) (subst (λ n. i < n) (sym a) li)))
-      ∙ first-pass (m .flags i) NodeStands _ out ∙ first-pass (ltb 1 (out-count q t m)) AnotherOut None (le-ltb 1 (out-count q t m) (omega arith))
 
   help-codes : (m : Model) (i : ℕ) → ((j p : ℕ) → j < q * t → (j ≡ i → ⊥) → p < q ^ t → m .words j p < f .size) → good-help f q t (m .words) i ≡ true
   help-codes m i codes =
@@ -151,8 +142,8 @@ module _ {E : Type 0} (f : Arith E) (q t : ℕ) (only-help : Only-help f q t) (o
       }
   repair-promise m i space (Err e) m′ s es message w after room li out one =
       let k = keeps f q t only-help (after .led) in
-      let u = subst (λ o. NotRepaired f q t m i e m′ o) (repair-none m i space (k .nodes) (k .places) room li out one) s in
-      let good = help-codes m i (λ j p lj ne lp. k .codes message (after .stored) j p lj lp (others-stand f q t only-help m i li out (omega arith) j lj ne)) in
+      let u = subst (λ o. NotRepaired f q t m i e m′ o) (repair-none f q t m i space (sized q t m (k .nodes) (k .places)) room li out (omega arith)) s in
+      let good = help-codes m i (λ j p lj ne lp. k .codes message (after .stored) j p lj lp (others-stand q t m i li out (omega arith) j lj ne)) in
       absurd (true≢false (sym good ∙ u .1))
 
   pub read-promise : 0 < q ^ t → (m : Model) (start : ℕ) (buffer : List ℕ) (r : Result Answer Refusal) (m′ : Model) (buffer′ : List ℕ) → Read q t m start buffer r m′ buffer′ → ReadPromise f q t m start r buffer′

@@ -1,16 +1,13 @@
 -- Counts of tests. Assumes nothing.
 use mathlib.Core.Path.{_≡_, refl, sym, ap, _∙_}
 use mathlib.Core.Logic.{_⊎_, inl, inr}
-use mathlib.Core.Bool.{Bool, true, false, cond, _||_}
-use Prim.Native.Nat.{ℕ, zero, suc, _+_, _≤_, _<_}
+use mathlib.Core.Bool.{Bool, true, false, cond, not, _||_}
+use Prim.Native.Nat.{ℕ, zero, suc, _+_, _*_, _≤_, _<_}
 use native.Mathlib.Omega.{arith}
 use Rattle.std.proofs.shelf.Tests.{cases-eq, cases-bool, cond-true, cond-false}
 use Rattle.shape.specs.Outages.{count}
-
-pub count-none : (test : ℕ → Bool) (n : ℕ) → ((i : ℕ) → i < n → test i ≡ false) → count test n ≡ 0
-unfolding count
-count-none test zero h = refl
-count-none test (suc n) h = let k = count-none test n (λ i l. h i (omega arith)) in let b = cond-false {A = ℕ} (test n) 1 0 (h n (omega arith)) in omega arith
+use Rattle.rack.specs.Model.{Model}
+use Rattle.vault.specs.Calls.{out-count}
 
 -- a test that holds counts
 pub count-some : (test : ℕ → Bool) (n i : ℕ) → i < n → test i ≡ true → 1 ≤ count test n
@@ -51,3 +48,13 @@ pub count-either : (a b : ℕ → Bool) (n : ℕ) → count (λ i. a i || b i) n
 unfolding count
 count-either a b zero = omega arith
 count-either a b (suc n) = let k = count-either a b n in let c = bits (a n) (b n) in omega arith
+
+-- past the tests of a repair all other nodes stand
+pub others-stand : (q t : ℕ) (m : Model) (i : ℕ) → i < q * t → m .flags i ≡ false → out-count q t m ≤ 1 → (j : ℕ) → j < q * t → (j ≡ i → ⊥) → m .flags j ≡ true
+others-stand q t m i li out few j lj ne = go (cases-bool (m .flags j))
+  where
+    go : (m .flags j ≡ true) ⊎ (m .flags j ≡ false) → m .flags j ≡ true
+    go (inl e) = e
+    go (inr e) =
+        let c = count-two (λ n. not (m .flags n)) (q * t) j i lj li ne (ap not e) (ap not out) in
+        absurd (omega arith)

@@ -7,9 +7,11 @@ ghost use Rattle.rack.specs.Model.{standing};
 ghost use Rattle.shape.specs.Outages.{every};
 ghost use Rattle.std.specs.declared.result.Result.the-variants.{Ok};
 ghost use Rattle.vault.specs.Calls.{wrong-size, held, Read};
+ghost use Rattle.vault.specs.History.{ReadPromise};
 ghost use Rattle.vault.specs.Steps.{read-drawn};
 use crate::answer::Answer;
 use crate::sizes::fits;
+use field::Field;
 use rack::Rack;
 use refusal::Refusal;
 use shape::Shape;
@@ -51,8 +53,8 @@ fn read_words<R: Rack>(
     Ok(())
 }
 
-// Gets the words of the message from a start on, as many as the buffer is long, and hands them out as they stand.
-pub fn read<R: Rack>(
+// The steps of `read`.
+fn read_message<R: Rack>(
     shape: Shape,
     rack: &mut R,
     start: usize,
@@ -75,4 +77,18 @@ pub fn read<R: Rack>(
         filled: 0,
         drawn: len,
     })
+}
+
+// Gets the words of the message from a start on, as many as the buffer is long, and hands them out as they stand.
+pub fn read<F: Field, R: Rack>(
+    shape: Shape,
+    rack: &mut R,
+    start: usize,
+    buffer: &mut [u16],
+) -> Result<Answer, Refusal>
+    ensures call { λ r. ⌜ Read (shape .q) (shape .t) (R·Rack .model (now (rack .entry))) start (now (buffer .entry)) r (R·Rack .model (now (rack .exit))) (now (buffer .exit)) ⌝ }
+    ensures history { λ r. ⌜ ReadPromise (F·Field .arith) (shape .q) (shape .t) (R·Rack .model (now (rack .entry))) start r (now (buffer .exit)) ⌝ }
+    ensures stays { λ r. ⌜ R·Rack .kept (now (rack .entry)) (now (rack .exit)) ⌝ }
+{
+    read_message(shape, rack, start, buffer)
 }

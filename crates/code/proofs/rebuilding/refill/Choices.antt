@@ -1,8 +1,10 @@
-use Prim.Native.Nat.{_^_}
+use Prim.Native.Nat.{_<_}
+use Rattle.shape.specs.Layout.{companion-place}
 use Rattle.shape.specs.Listing.{outages}
 use Rattle.shape.specs.Outages.{among}
-use Rattle.code.specs.Steps.{Refilled-to}
+use Rattle.code.specs.Steps.{Refilled-where}
 use Rattle.code.proofs.rebuilding.refill.Given as given
 
-abbrev pub Inv-loop-place : given.InvT-loop-place
-Inv-loop-place g l = Refilled-to (g .F·Field .arith) (l .shape .q) (l .shape .t) (among (outages (l .column))) (l .node) (l .place) (l .entry .words) (l .words)
+abbrev pub Inv-loop-plane : given.InvT-loop-plane
+Inv-loop-plane g l =
+    Refilled-where (g .F·Field .arith) (l .shape .q) (l .shape .t) (among (outages (l .column))) (l .node) (λ p. companion-place (l .shape .q) (l .node) p < l .plane) (l .entry .words) (l .words)

@@ -64,7 +64,7 @@ returns-then-not-all-codes g c = record {
       let used = s .q * s .t * s .q ^ s .t in
       let n : o .count ≡ s .q * s .t = sym (c .nodes .ensures) ∙ c .if-nodes .left ∙ c .nodes-2 .ensures in
       let bad : first-codes f cs used ≡ false = sym (front-codes f cs used _ (omega arith) (omega arith)) ∙ sym (c .if-not-all-codes .ensures tt) in
-      let good = good-standing f (s .q) (s .t) (standing f (s .q) (s .t) (outages o)) (laid (s .q ^ s .t) ws) in
+      let good = good-standing f (s .q) (s .t) (standing (outages o)) (laid (s .q ^ s .t) ws) in
       refused-bad f (s .q) (s .t) (outages o) ws cs (o .count) (refusal-none f (s .q) (s .t) (o .count) (outages o) ws (omega arith) n (omega arith))
       (⊎-elim (λ e. absurd (both-ways (first-codes f cs used) bad (codes-from f cs used (good-codes f laws (shaped s) (outages o) ws cs (c .clear .ensures .cleared) e)))) (λ e. e) (cases-bool good))
       (c .clear .ensures .rest));

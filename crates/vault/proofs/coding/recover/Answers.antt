@@ -1,16 +1,20 @@
-use Prim.Native.Nat.{_-_, _*_, _^_, _≤_}
-use native.Mathlib.Nat.{mul-le-mul}
-use native.Mathlib.Omega.{arith}
-use Rattle.shape.proofs.Bounds.{shaped, places-bound}
-use Rattle.shape.proofs.OutageLists.{outages-length}
+use Rattle.shape.proofs.Bounds.{shaped}
+use Rattle.vault.proofs.Codewords.{only-codeword, only-help}
+use Rattle.vault.proofs.Promises.{recover-promise}
 use Rattle.vault.proofs.coding.recover.Needs as need
+use lib.ListN.{length}
 
-pub sub-result : need.sub-result
-sub-result g c = omega (arith, outages-length (c .outages-out .result), c .outages-out .ensures .count, c .len-3 .ensures, c .nodes .ensures)
-
-pub mul-result : need.mul-result
-mul-result g c =
-    let few : c .nodes .result - c .len-3 .result ≤ 16 = omega (arith, c .nodes .ensures, c .args .shape .few) in
-    let small : c .places .result ≤ 256 = omega (arith, c .places .ensures, places-bound (shaped (c .args .shape))) in
-    let all = mul-le-mul few small in
-    omega arith
+pub returns : need.returns
+returns g c =
+    let f = g .F·Field .arith in
+    let laws = g .F·Field·met .lawful in
+    let q = c .args .shape .q in
+    let t = c .args .shape .t in
+    let s = shaped (c .args .shape) in
+    let done = c .recover-nodes .ensures in
+    record {
+      call = done .call;
+      history = recover-promise f q t (only-help f laws q t s) (only-codeword f laws q t s) (g .R·Rack .model (c .args .rack .now)) (length (c .args .space .now)) (c .recover-nodes .result) (g .R·Rack .model (c .recover-nodes .last .rack)) (done .call);
+      space = done .space;
+      stays = done .stays;
+    }

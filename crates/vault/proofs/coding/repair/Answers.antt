@@ -1,12 +1,20 @@
-use Prim.Native.Nat.{_-_, _*_, _^_, _≤_}
-use native.Mathlib.Nat.{mul-le-mul}
-use native.Mathlib.Omega.{arith}
-use Rattle.shape.proofs.Bounds.{shaped, weight-bound}
+use lib.ListN.{length}
+use Rattle.shape.proofs.Bounds.{shaped}
+use Rattle.vault.proofs.Codewords.{only-codeword, only-help}
+use Rattle.vault.proofs.Promises.{repair-promise}
 use Rattle.vault.proofs.coding.repair.Needs as need
 
-pub mul-result : need.mul-result
-mul-result g c =
-    let few : c .nodes-2 .result - 1 ≤ 16 = omega (arith, c .nodes-2 .ensures, c .args .shape .few) in
-    let small : c .helper-places .result ≤ 256 = omega (arith, c .helper-places .ensures, weight-bound (shaped (c .args .shape)) (c .args .shape .t - 1) (omega arith)) in
-    let all = mul-le-mul few small in
-    omega arith
+pub returns : need.returns
+returns g c =
+    let f = g .F·Field .arith in
+    let laws = g .F·Field·met .lawful in
+    let q = c .args .shape .q in
+    let t = c .args .shape .t in
+    let s = shaped (c .args .shape) in
+    let done = c .repair-node .ensures in
+    record {
+      call = done .call;
+      history = repair-promise f q t (only-help f laws q t s) (only-codeword f laws q t s) (g .R·Rack .model (c .args .rack .now)) (c .args .node) (length (c .args .space .now)) (c .repair-node .result) (g .R·Rack .model (c .repair-node .last .rack)) (done .call);
+      space = done .space;
+      stays = done .stays;
+    }

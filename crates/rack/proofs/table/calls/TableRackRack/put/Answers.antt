@@ -1,7 +1,7 @@
 use mathlib.Core.Path.{refl, sym, _∙_}
 use Prim.Native.Nat.{_<_}
 use native.Mathlib.Omega.{arith}
-use Rattle.std.specs.Of.Vec.{vec-len, vec-items}
+use Rattle.std.specs.Of.Vec.{vec-len}
 use Rattle.rack.specs.Table.{table-model}
 use Rattle.rack.proofs.Models.{done-ok, is-within, after-put-ok, place-below}
 use Rattle.rack.proofs.Tables.{set-word}

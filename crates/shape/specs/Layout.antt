@@ -2,7 +2,7 @@
 -- A place stands for a plane of the code; its digits in base q, one for each column, are the plane's coordinates. Assumes nothing.
 use mathlib.Core.Bool.{Bool, _&&_}
 use Prim.Native.Nat.{ℕ, _+_, _-_, _*_, _/_, _%_, _^_}
-use lib.Dec.{eqb, leb}
+use lib.Dec.{leb}
 
 -- q rows and t columns are a shape: each at least 2, and at most 16 nodes
 abbrev pub is-shape : ℕ → ℕ → Bool
@@ -33,7 +33,3 @@ companion-node q i p = node-at q (digit q p (column q i)) (column q i)
 
 unfoldable pub companion-place : (q i p : ℕ) → ℕ
 companion-place q i p = with-digit q p (column q i) (row q i)
-
--- place p helps to repair node i: its digit in the node's column is the node's row
-abbrev pub helps : (q i p : ℕ) → Bool
-helps q i p = eqb (digit q p (column q i)) (row q i)

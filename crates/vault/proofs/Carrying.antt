@@ -12,8 +12,8 @@ use Rattle.std.proofs.shelf.Tests.{cases-bool, lt-ltb, le-ltb, cond-true, cond-
 use Rattle.field.specs.Field.{Arith}
 use Rattle.shape.specs.Outages.{every}
 use Rattle.shape.proofs.Every.{every-from, every-at}
-use Rattle.code.specs.Code.{Words, laid}
-use Rattle.code.specs.Calls.{Agrees, OnlyAgrees, NoneAgrees, Restored, restore-refusal, good-standing, standing, Rest}
+use Rattle.code.specs.Code.{Words, laid, Agrees, OnlyAgrees}
+use Rattle.code.specs.Calls.{NoneAgrees, Restored, restore-refusal, good-standing, standing, Rest}
 use Rattle.code.proofs.Solutions.{rest-kept}
 use Rattle.refusal.specs.declared.reason.Refusal.{Refusal}
 use Rattle.refusal.specs.declared.reason.Refusal.the-variants.{BadWord, NoCodeword}
@@ -73,10 +73,10 @@ module _ {E : Type 0} (f : Arith E) (q t : ℕ) (g h : ℕ → Bool) (v w : Word
 
 -- a restore that was refused past its tests
 module _ {E : Type 0} (f : Arith E) (q t count : ℕ) (nodes before after : List ℕ) (e : Refusal) where
-  pub late-parts : restore-refusal f q t count nodes before ≡ None → Restored f q t {X = Unit {0}} count nodes before (Err e) after
-      → NoneAgrees f q t (standing f q t nodes) (laid (q ^ t) before) e × Rest (q * t * q ^ t) before after
+  pub late-parts : restore-refusal q t count nodes before ≡ None → Restored f q t {X = Unit {0}} count nodes before (Err e) after
+      → NoneAgrees f q t (standing nodes) (laid (q ^ t) before) e × Rest (q * t * q ^ t) before after
   late-parts is r =
-      let P : Option Refusal → Type 0 = λ o. elim o [ Some x ↦ (e ≡ x) × (after ≡ before) | None ↦ NoneAgrees f q t (standing f q t nodes) (laid (q ^ t) before) e × Rest (q * t * q ^ t) before after ] in
+      let P : Option Refusal → Type 0 = λ o. elim o [ Some x ↦ (e ≡ x) × (after ≡ before) | None ↦ NoneAgrees f q t (standing nodes) (laid (q ^ t) before) e × Rest (q * t * q ^ t) before after ] in
       subst P is r
 
 -- the space after a refusal that changed nothing, and after one that drew

@@ -3,12 +3,11 @@ use mathlib.Core.Path.{_≡_, sym, ap, _∙_}
 use mathlib.Core.Bool.{Bool, true, false}
 use Prim.Native.Nat.{ℕ, _*_, _^_, _≤_, _<_}
 use Rattle.field.specs.Field.{Arith, Laws}
-use Rattle.shape.specs.Layout.{helps, digit, row, column}
+use Rattle.shape.specs.Layout.{digit, row, column}
 use Rattle.shape.specs.Outages.{count}
 use Rattle.shape.proofs.Bounds.{Shaped, rows-positive}
 use Rattle.std.proofs.shelf.Tests.{eqb-true, eq-eqb}
-use Rattle.code.specs.Code.{Words, Codeword, elements}
-use Rattle.code.specs.Calls.{Refills}
+use Rattle.code.specs.Code.{Words, Codeword, Refills, elements, helps}
 use Rattle.code.specs.Theorems.{Only-one, Repair-one}
 use Rattle.code.proofs.Main.{only-one-stands, repair-one-stands}
 

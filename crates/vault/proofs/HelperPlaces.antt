@@ -9,7 +9,8 @@ use lib.Dec.{eqb}
 use lib.Pow.{pow-add}
 use Rattle.std.proofs.shelf.Bits.{div-mul-add, mod-mul-add}
 use Rattle.std.proofs.shelf.Tests.{cases-eq, cases-bool, eq-eqb, ne-eqb, cond-true, cond-false}
-use Rattle.shape.specs.Layout.{helps, digit, row, column}
+use Rattle.code.specs.Code.{helps}
+use Rattle.shape.specs.Layout.{digit, row, column}
 use Rattle.shape.specs.Outages.{count}
 use Rattle.shape.proofs.Counts.{count-same, count-none, count-all}
 

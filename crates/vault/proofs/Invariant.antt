@@ -7,11 +7,9 @@ use Prim.Native.Nat.{ℕ, _+_, _-_, _*_, _^_, _<_, _≤_}
 use lib.ListN.{getD}
 use native.Mathlib.Omega.{arith}
 use lib.Dec.{eqb, ltb}
-use Rattle.std.proofs.shelf.Tests.{cases-eq, cases-bool, not-false, ltb-true, ltb-false, eq-eqb, ne-eqb, cond-true, cond-false, true≢false}
+use Rattle.std.proofs.shelf.Tests.{cases-eq, cases-bool, not-false, ltb-true, ltb-false, true≢false}
 use Rattle.field.specs.Field.{Arith}
-use Rattle.code.specs.Code.{Words, Codeword}
-use Rattle.code.specs.Calls.{Agrees, OnlyAgrees, Encodes, Refills, OnlyRefill, with-node}
-use Rattle.shape.specs.Layout.{helps}
+use Rattle.code.specs.Code.{Words, Codeword, Agrees, OnlyAgrees, Encodes, Refills, OnlyRefill, with-node, helps}
 use Rattle.vault.proofs.Codewords.{Only-help}
 use Rattle.rack.specs.Model.{Model, changed, with-flag, with-word, within, node-within}
 use Rattle.rack.proofs.Models.{changed-same, changed-other}
@@ -125,8 +123,8 @@ module _ {E : Type 0} (f : Arith E) (q t : ℕ) (only-help : Only-help f q t) wh
   codeword-refills w i li cw = record { codes = λ p lp. cw .codes i p li lp; checks = λ p e lp le h. cw .checks p e lp le }
 
   -- the words of a node that was replaced
-  own : (c : ℕ → ℕ) (w : Words) (i p : ℕ) → with-node f q t w i c i p ≡ c p
-  own c w i p = cond-true (eqb i i) (c p) (w i p) (eq-eqb i i refl)
+  own : (c : ℕ → ℕ) (w : Words) (i p : ℕ) → with-node w i c i p ≡ c p
+  own c w i p = ap (λ (g : ℕ → ℕ). g p) (changed-same w i c)
 
   -- a refill from a codeword's helper words is the codeword's node
   pub refilled : (m : Model) (i : ℕ) (c : ℕ → ℕ) (w : Words) → i < q * t → OnlyRefill f q t (m .words) i c → Codeword f q t w
@@ -134,8 +132,8 @@ module _ {E : Type 0} (f : Arith E) (q t : ℕ) (only-help : Only-help f q t) wh
       → (p : ℕ) → p < q ^ t → c p ≡ w i p
   refilled m i c w li only cw alike p lp =
       sym (own c (m .words) i p)
-      ∙ only-help (with-node f q t (m .words) i c) w i li (only .refills) (codeword-refills w i li cw)
-      (λ j p lj lp h ne. cond-false (eqb j i) (c p) (m .words j p) (ne-eqb j i ne) ∙ alike j p lj ne lp h) p lp
+      ∙ only-help (with-node (m .words) i c) w i li (only .refills) (codeword-refills w i li cw)
+      (λ j p lj lp h ne. ap (λ (g : ℕ → ℕ). g p) (changed-other (m .words) i j c ne) ∙ alike j p lj ne lp h) p lp
 
   module _ (m m′ : Model) (i space : ℕ) (last : Option (List ℕ)) (b : Bool) (k : Kept m last b) where
     repair-tests : repair-refusal f q t m i space ≡ None → (i < q * t) × (m .flags i ≡ false) × (out-count q t m ≤ 1)

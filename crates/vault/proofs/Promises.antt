@@ -13,9 +13,8 @@ use Rattle.field.specs.Field.{Arith}
 use Rattle.shape.specs.Outages.{count, every}
 use Rattle.shape.proofs.Counts.{count-none}
 use Rattle.shape.proofs.Every.{every-at, every-from}
-use Rattle.code.specs.Code.{Words, Codeword}
-use Rattle.code.specs.Calls.{Agrees, Encodes, good-help, good-standing}
-use Rattle.shape.specs.Layout.{helps}
+use Rattle.code.specs.Code.{Words, Codeword, Agrees, Encodes, helps}
+use Rattle.code.specs.Calls.{good-help, good-standing}
 use Rattle.vault.proofs.Codewords.{Only-codeword, Only-help}
 use Rattle.rack.specs.Model.{Model, changed, risen, node-within}
 use Rattle.rack.proofs.Models.{changed-same}

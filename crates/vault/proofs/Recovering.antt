@@ -12,8 +12,8 @@ use Rattle.field.specs.Field.{Arith}
 use Rattle.shape.specs.Outages.{count, listed, among}
 use Rattle.shape.proofs.Counts.{count-all, count-same}
 use Rattle.shape.proofs.Listed.{listed-length, among-listed}
-use Rattle.code.specs.Code.{Words, laid}
-use Rattle.code.specs.Calls.{Agrees, OnlyAgrees, NoneAgrees, good-standing, standing}
+use Rattle.code.specs.Code.{Words, laid, Agrees, OnlyAgrees}
+use Rattle.code.specs.Calls.{NoneAgrees, good-standing, standing}
 use Rattle.rack.specs.Model.{Model, risen, standing as stands-in}
 use Rattle.rack.proofs.Models.{both}
 use Rattle.refusal.specs.declared.reason.Refusal.{Refusal}
@@ -71,13 +71,13 @@ module _ {E : Type 0} (f : Arith E) (q t : ℕ) (m m1 : Model) (nodes s0 s1 : Li
     has-meters = meters-drawn;
   }
 
-  module _ (s2 : List ℕ) (m2 : Model) (only : OnlyAgrees f q t (standing f q t nodes) (laid (q ^ t) s1) (laid (q ^ t) s2))
+  module _ (s2 : List ℕ) (m2 : Model) (only : OnlyAgrees f q t (standing nodes) (laid (q ^ t) s1) (laid (q ^ t) s2))
       (wrote : m2 ≡ written-below m1 (among nodes) (laid (q ^ t) s2) (q * t)) where
     abbrev W : Words
     W = laid (q ^ t) s2
 
     pub only-agrees : OnlyAgrees f q t (m .flags) (m .words) W
-    only-agrees = only-too f q t (standing f q t nodes) (m .flags) (laid (q ^ t) s1) (m .words) (stand-same q t m nodes size list) words-same W only
+    only-agrees = only-too f q t (standing nodes) (m .flags) (laid (q ^ t) s1) (m .words) (stand-same q t m nodes size list) words-same W only
 
     flag : (i : ℕ) → i < q * t → (m .flags i ≡ true) ⊎ (m .flags i ≡ false) → m2 .flags i ≡ true
     flag i l c = ap (λ x. x .flags i) wrote ∙ ap (λ b. cond (b && among nodes i) true (m1 .flags i)) (lt-ltb i (q * t) l) ∙ go c
@@ -110,13 +110,13 @@ module _ {E : Type 0} (f : Arith E) (q t : ℕ) (m m1 : Model) (nodes s0 s1 : Li
     }
 
   -- why none was recovered
-  module _ (e : Refusal) (none : NoneAgrees f q t (standing f q t nodes) (laid (q ^ t) s1) e) where
+  module _ (e : Refusal) (none : NoneAgrees f q t (standing nodes) (laid (q ^ t) s1) e) where
     abbrev Told : Bool → Type 0
-    Told b = elim b as (λ x. Type 0) [ true ↦ (e ≡ NoCodeword) × ((w : Words) → Agrees f q t (standing f q t nodes) (laid (q ^ t) s1) w → ⊥) | false ↦ e ≡ BadWord ]
+    Told b = elim b as (λ x. Type 0) [ true ↦ (e ≡ NoCodeword) × ((w : Words) → Agrees f q t (standing nodes) (laid (q ^ t) s1) w → ⊥) | false ↦ e ≡ BadWord ]
 
     tell : (b : Bool) → Told b → Unrecovered f q t m e b × (drew e ≡ true)
     tell true (is, no-one) = (
-      (is, λ w a. no-one w (agrees-back f q t (standing f q t nodes) (m .flags) (laid (q ^ t) s1) (m .words) (stand-same q t m nodes size list) words-same w a)),
+      (is, λ w a. no-one w (agrees-back f q t (standing nodes) (m .flags) (laid (q ^ t) s1) (m .words) (stand-same q t m nodes size list) words-same w a)),
       ap drew is,
     )
     tell false is = (is, ap drew is)
@@ -124,7 +124,7 @@ module _ {E : Type 0} (f : Arith E) (q t : ℕ) (m m1 : Model) (nodes s0 s1 : Li
     pub unrecovered : Unrecovered f q t m e (good-standing f q t (m .flags) (m .words)) × (drew e ≡ true)
     unrecovered =
         tell (good-standing f q t (m .flags) (m .words))
-        (subst Told (good-too f q t (standing f q t nodes) (m .flags) (laid (q ^ t) s1) (m .words) (stand-same q t m nodes size list) words-same) none)
+        (subst Told (good-too f q t (standing nodes) (m .flags) (laid (q ^ t) s1) (m .words) (stand-same q t m nodes size list) words-same) none)
 
 module _ {E : Type 0} (f : Arith E) (q t : ℕ) where
   -- a recover with a long enough space, where few nodes are out, passes the tests

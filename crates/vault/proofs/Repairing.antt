@@ -8,18 +8,15 @@ use native.Mathlib.Nat.{mul-le-mul-right, add-mul}
 use native.Mathlib.Omega.{arith}
 use lib.Dec.{eqb, ltb}
 use lib.ListN.{length, getD}
-use Rattle.std.proofs.shelf.Tests.{cases-eq, cases-bool, eq-eqb, ne-eqb, eqb-true, lt-ltb, le-ltb, not-false, cond-true, cond-false}
-use Rattle.field.specs.Field.{Arith, Laws}
-use Rattle.shape.specs.Layout.{helps, digit, row, column, node-at, companion-node, companion-place}
+use Rattle.std.proofs.shelf.Tests.{cases-eq, cases-bool, eq-eqb, ne-eqb, lt-ltb, le-ltb, not-false, cond-true, cond-false}
+use Rattle.field.specs.Field.{Arith}
 use Rattle.shape.specs.Outages.{every, count}
 use Rattle.shape.proofs.Bounds.{Shaped, rows-positive}
 use Rattle.shape.proofs.Counts.{count-same}
-use Rattle.shape.proofs.Digits.{row-bound, column-bound, node-own, column-companion, companion-bound, companion-place-bound, digit-with-other}
-use Rattle.code.specs.Code.{Words, laid, check, elements, moment, uncoupled}
-use Rattle.code.specs.Calls.{Refills, OnlyRefill, Rest, with-node, good-help, helper-codes, rebuild-refusal}
+use Rattle.shape.proofs.Digits.{row-bound, column-bound}
+use Rattle.code.specs.Code.{Words, laid, helps, SameHelp, OnlyRefill}
+use Rattle.code.specs.Calls.{Rest, HelpRefill, good-help, helper-codes, rebuild-refusal}
 use Rattle.code.proofs.Solutions.{rest-kept}
-use Rattle.code.proofs.Sums.{moment-same}
-use Rattle.code.proofs.Uncoupling.{uncoupled-same}
 use Rattle.rack.specs.Model.{Model, changed, risen, node-within}
 use Rattle.rack.proofs.Models.{changed-same, changed-other, both}
 use Rattle.refusal.specs.First.{first}
@@ -34,80 +31,21 @@ use Rattle.vault.proofs.HelperPlaces.{helpers-count}
 use Rattle.vault.proofs.Refusing.{first-none, first-pass, first-here, right-size}
 use Rattle.vault.proofs.Tallies.{others-stand}
 
-module _ {E : Type 0} (f : Arith E) (laws : Laws f) (q t : ℕ) (s : Shaped q t) (lost : ℕ) (within : lost < q * t) where
-  -- the checks of a plane that helps speak only of helper words and of the node's own
-  module _ (A B : ℕ → ℕ → E) (own : (p : ℕ) → p < q ^ t → A lost p ≡ B lost p)
-      (help : (j p : ℕ) → j < q * t → p < q ^ t → helps q lost p ≡ true → (j ≡ lost → ⊥) → A j p ≡ B j p) where
-    here : (j p : ℕ) → j < q * t → p < q ^ t → helps q lost p ≡ true → (j ≡ lost) ⊎ (j ≡ lost → ⊥) → A j p ≡ B j p
-    here j p lj lp h (inl e) = ap (λ x. A x p) e ∙ own p lp ∙ ap (λ x. B x p) (sym e)
-    here j p lj lp h (inr ne) = help j p lj lp h ne
+module _ {E : Type 0} (f : Arith E) (q t lost : ℕ) (v w : Words) (alike : SameHelp f q t lost v w) where
+  -- their helper words are codes alike
+  pub help-too : good-help f q t v lost ≡ good-help f q t w lost
+  help-too = every-alike (λ j. cond (eqb j lost) true (helper-codes f q t v lost j)) (λ j. cond (eqb j lost) true (helper-codes f q t w lost j)) (q * t) (λ j lj. go j lj (cases-eq j lost))
+    where
+      word : (j p : ℕ) → j < q * t → p < q ^ t → (j ≡ lost → ⊥) → (helps q lost p ≡ true) ⊎ (helps q lost p ≡ false)
+          → cond (helps q lost p) (ltb (v j p) (f .size)) true ≡ cond (helps q lost p) (ltb (w j p) (f .size)) true
+      word j p lj lp ne (inl h) = ap (λ x. cond (helps q lost p) (ltb x (f .size)) true) (alike j p lj lp h ne)
+      word j p lj lp ne (inr h) = cond-false (helps q lost p) (ltb (v j p) (f .size)) true h ∙ sym (cond-false (helps q lost p) (ltb (w j p) (f .size)) true h)
 
-    -- a companion in the node's column is the node
-    companion-own : (j p : ℕ) → helps q lost p ≡ true → column q j ≡ column q lost → companion-node q j p ≡ lost
-    unfolding companion-node
-    companion-own j p h same =
-        ap₂ (node-at q) (ap (digit q p) same ∙ eqb-true (digit q p (column q lost)) (row q lost) h) same ∙ node-own q (rows-positive s) lost
-
-    -- one in another column lies in a plane that helps
-    companion-helps : (j p : ℕ) → helps q lost p ≡ true → (column q j ≡ column q lost → ⊥) → helps q lost (companion-place q j p) ≡ true
-    unfolding companion-place
-    companion-helps j p h other =
-        eq-eqb (digit q (companion-place q j p) (column q lost)) (row q lost)
-        (digit-with-other q (rows-positive s) p (column q j) (row q j) (column q lost) (row-bound q (rows-positive s) j) other
-        ∙ eqb-true (digit q p (column q lost)) (row q lost) h)
-
-    there : (j p : ℕ) → j < q * t → p < q ^ t → helps q lost p ≡ true → (column q j ≡ column q lost) ⊎ (column q j ≡ column q lost → ⊥)
-        → A (companion-node q j p) (companion-place q j p) ≡ B (companion-node q j p) (companion-place q j p)
-    there j p lj lp h (inl same) =
-        ap (λ x. A x (companion-place q j p)) (companion-own j p h same) ∙ own (companion-place q j p) (companion-place-bound q (rows-positive s) j p t lj lp)
-        ∙ ap (λ x. B x (companion-place q j p)) (sym (companion-own j p h same))
-    there j p lj lp h (inr other) =
-        help (companion-node q j p) (companion-place q j p) (companion-bound q (rows-positive s) j p t lj) (companion-place-bound q (rows-positive s) j p t lj lp) (companion-helps j p h other)
-        (λ e. other (sym (column-companion q (rows-positive s) j p) ∙ ap (column q) e))
-
-    pub checks-alike : (p e : ℕ) → p < q ^ t → helps q lost p ≡ true → check f q t A p e ≡ check f q t B p e
-    checks-alike p e lp h =
-        moment-same f laws (f .point) (λ j. uncoupled f q A j p) (λ j. uncoupled f q B j p) (q * t) e
-        (λ j lj. uncoupled-same f laws q A B j p (here j p lj lp h (cases-eq j lost)) (λ apart. there j p lj lp h (cases-eq (column q j) (column q lost))))
-
-  module _ (v w : Words) (alike : (j p : ℕ) → j < q * t → p < q ^ t → helps q lost p ≡ true → (j ≡ lost → ⊥) → v j p ≡ w j p) where
-    node-own-words : (u : Words) (c : ℕ → ℕ) (p : ℕ) → with-node f q t u lost c lost p ≡ c p
-    node-own-words u c p = cond-true (eqb lost lost) (c p) (u lost p) (eq-eqb lost lost refl)
-
-    other-words : (u : Words) (c : ℕ → ℕ) (j p : ℕ) → (j ≡ lost → ⊥) → with-node f q t u lost c j p ≡ u j p
-    other-words u c j p ne = cond-false (eqb j lost) (c p) (u j p) (ne-eqb j lost ne)
-
-    -- a refill of the one is a refill of the other
-    pub refills-too : (c : ℕ → ℕ) → Refills f q t (with-node f q t v lost c) lost → Refills f q t (with-node f q t w lost c) lost
-    refills-too c r = record {
-      codes = λ p lp. subst (λ x. x < f .size) (node-own-words v c p ∙ sym (node-own-words w c p)) (r .codes p lp);
-      checks = λ p e lp le h.
-        sym (checks-alike (elements f (with-node f q t v lost c)) (elements f (with-node f q t w lost c)) (λ p lp. ap (f .of) (node-own-words v c p ∙ sym (node-own-words w c p)))
-        (λ j p lj lp h ne. ap (f .of) (other-words v c j p ne ∙ alike j p lj lp h ne ∙ sym (other-words w c j p ne))) p e lp h)
-        ∙ r .checks p e lp le h;
-    }
-
-    -- their helper words are codes alike
-    pub help-too : good-help f q t v lost ≡ good-help f q t w lost
-    help-too = every-alike (λ j. cond (eqb j lost) true (helper-codes f q t v lost j)) (λ j. cond (eqb j lost) true (helper-codes f q t w lost j)) (q * t) (λ j lj. go j lj (cases-eq j lost))
-      where
-        word : (j p : ℕ) → j < q * t → p < q ^ t → (j ≡ lost → ⊥) → (helps q lost p ≡ true) ⊎ (helps q lost p ≡ false)
-            → cond (helps q lost p) (ltb (v j p) (f .size)) true ≡ cond (helps q lost p) (ltb (w j p) (f .size)) true
-        word j p lj lp ne (inl h) = ap (λ x. cond (helps q lost p) (ltb x (f .size)) true) (alike j p lj lp h ne)
-        word j p lj lp ne (inr h) = cond-false (helps q lost p) (ltb (v j p) (f .size)) true h ∙ sym (cond-false (helps q lost p) (ltb (w j p) (f .size)) true h)
-
-        go : (j : ℕ) → j < q * t → (j ≡ lost) ⊎ (j ≡ lost → ⊥) → cond (eqb j lost) true (helper-codes f q t v lost j) ≡ cond (eqb j lost) true (helper-codes f q t w lost j)
-        go j lj (inl e) = cond-true (eqb j lost) true (helper-codes f q t v lost j) (eq-eqb j lost e) ∙ sym (cond-true (eqb j lost) true (helper-codes f q t w lost j) (eq-eqb j lost e))
-        go j lj (inr ne) =
-            ap (λ b. cond (eqb j lost) true b)
-            (every-alike (λ p. cond (helps q lost p) (ltb (v j p) (f .size)) true) (λ p. cond (helps q lost p) (ltb (w j p) (f .size)) true) (q ^ t) (λ p lp. word j p lj lp ne (cases-bool (helps q lost p))))
-
-  pub only-refill-too : (v w : Words) (alike : (j p : ℕ) → j < q * t → p < q ^ t → helps q lost p ≡ true → (j ≡ lost → ⊥) → v j p ≡ w j p) (c : ℕ → ℕ)
-      → OnlyRefill f q t v lost c → OnlyRefill f q t w lost c
-  only-refill-too v w alike c o = record {
-    refills = refills-too v w alike c (o .refills);
-    only = λ d r. o .only d (refills-too w v (λ j p lj lp h ne. sym (alike j p lj lp h ne)) d r);
-  }
+      go : (j : ℕ) → j < q * t → (j ≡ lost) ⊎ (j ≡ lost → ⊥) → cond (eqb j lost) true (helper-codes f q t v lost j) ≡ cond (eqb j lost) true (helper-codes f q t w lost j)
+      go j lj (inl e) = cond-true (eqb j lost) true (helper-codes f q t v lost j) (eq-eqb j lost e) ∙ sym (cond-true (eqb j lost) true (helper-codes f q t w lost j) (eq-eqb j lost e))
+      go j lj (inr ne) =
+          ap (λ b. cond (eqb j lost) true b)
+          (every-alike (λ p. cond (helps q lost p) (ltb (v j p) (f .size)) true) (λ p. cond (helps q lost p) (ltb (w j p) (f .size)) true) (q ^ t) (λ p lp. word j p lj lp ne (cases-bool (helps q lost p))))
 
 -- the tests of a repair
 module _ {E : Type 0} (f : Arith E) (q t : ℕ) (m : Model) (i space : ℕ) (size : wrong-size q t m ≡ false) (room : short q t space ≡ false) (li : i < q * t) (out : m .flags i ≡ false) where
@@ -140,7 +78,7 @@ module _ {E : Type 0} (f : Arith E) (q t i : ℕ) (ws : List ℕ) (room : q * t 
   pub rebuild-good : rebuild-refusal f q t i ws ≡ None → good-help f q t (laid (q ^ t) ws) i ≡ true
   rebuild-good is = not-false (good-help f q t (laid (q ^ t) ws) i) (first-none (not (good-help f q t (laid (q ^ t) ws) i)) BadWord None (sym rebuild-passed ∙ is) .0)
 
-module _ {E : Type 0} (f : Arith E) (laws : Laws f) (q t : ℕ) (s : Shaped q t) (lost : ℕ) (within : lost < q * t) (m m1 : Model) (s0 s1 : List ℕ)
+module _ {E : Type 0} (f : Arith E) (q t : ℕ) (s : Shaped q t) (lost : ℕ) (within : lost < q * t) (m m1 : Model) (s0 s1 : List ℕ)
     (size : wrong-size q t m ≡ false) (out : m .flags lost ≡ false) (few : out-count q t m ≤ 1)
     (all-drawn : m1 ≡ drawn-below m (q * t) (count (takes q (Helping lost)) (q ^ t)))
     (gathered : Gathered (q ^ t) (λ j p. (ltb j (q * t) && m .flags j) && takes q (Helping lost) p) (m .words) s0 s1) where
@@ -179,10 +117,10 @@ module _ {E : Type 0} (f : Arith E) (laws : Laws f) (q t : ℕ) (s : Shaped q t)
   }
 
   pub same-help : good-help f q t (laid (q ^ t) s1) lost ≡ good-help f q t (m .words) lost
-  same-help = help-too f laws q t s lost within (laid (q ^ t) s1) (m .words) helper-words
+  same-help = help-too f q t lost (laid (q ^ t) s1) (m .words) helper-words
 
-  pub same-refill : (c : ℕ → ℕ) → OnlyRefill f q t (laid (q ^ t) s1) lost c → OnlyRefill f q t (m .words) lost c
-  same-refill c o = only-refill-too f laws q t s lost within (laid (q ^ t) s1) (m .words) helper-words c o
+  pub same-refill : (c : ℕ → ℕ) → HelpRefill f q t (laid (q ^ t) s1) lost c → OnlyRefill f q t (m .words) lost c
+  same-refill c refill = refill (m .words) (λ j p lj lp h ne. sym (helper-words j p lj lp h ne))
 
   -- the node stands with the words of the space, and nothing else changed
   pub repaired-now : (c : ℕ → ℕ) (m2 : Model) → m2 ≡ written m1 lost c → Now q t m (changed (m .flags) lost true) (changed (m .words) lost c) (repair-meters f q t m lost) m2

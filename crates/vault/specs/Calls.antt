@@ -7,8 +7,8 @@ use lib.Dec.{eqb, ltb}
 use lib.ListN.{length, getD, drop}
 use Rattle.field.specs.Field.{Arith}
 use Rattle.shape.specs.Outages.{count, every, listed}
-use Rattle.code.specs.Code.{Words}
-use Rattle.code.specs.Calls.{Agrees, OnlyAgrees, Encodes, OnlyRefill, all-codes, good-standing, good-help}
+use Rattle.code.specs.Code.{Words, Agrees, OnlyAgrees, Encodes, OnlyRefill}
+use Rattle.code.specs.Calls.{all-codes, good-standing, good-help}
 use Rattle.refusal.specs.First.{first}
 use Rattle.refusal.specs.Numbers.{number-of}
 use Rattle.rack.specs.Model.{Model, changed, risen, with-flag, with-word, within, node-within}

@@ -7,9 +7,7 @@ use lib.Dec.{eqb}
 use lib.ListN.{length, getD}
 use Rattle.field.specs.Field.{Arith}
 use Rattle.shape.specs.Outages.{count, every}
-use Rattle.code.specs.Code.{Words}
-use Rattle.code.specs.Calls.{Encodes}
-use Rattle.shape.specs.Layout.{helps}
+use Rattle.code.specs.Code.{Words, Encodes, helps}
 use Rattle.rack.specs.Model.{Model, risen}
 use Rattle.refusal.specs.declared.reason.Refusal.{Refusal}
 use Rattle.vault.specs.declared.answer.Answer.{Answer}

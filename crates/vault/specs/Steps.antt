@@ -4,8 +4,7 @@ use mathlib.Core.Bool.{Bool, true, cond, _&&_}
 use mathlib.Core.List.{List}
 use Prim.Native.Nat.{ℕ, _+_, _/_, _<_}
 use lib.Dec.{eqb, ltb}
-use Rattle.code.specs.Code.{Words, laid}
-use Rattle.shape.specs.Layout.{helps}
+use Rattle.code.specs.Code.{Words, laid, helps}
 use Rattle.shape.specs.Outages.{count}
 use Rattle.rack.specs.Model.{Model, changed, risen, with-flag}
 use Rattle.vault.specs.declared.selection.Selection.{Selection}

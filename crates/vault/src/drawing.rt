@@ -4,7 +4,7 @@ ghost use mathlib.Core.Bool.{true, false, _&&_};
 ghost use Prim.Native.Nat.{_*_, _^_, _<_, _≤_};
 ghost use lib.Dec.{eqb, ltb};
 ghost use lib.ListN.{length};
-ghost use Rattle.shape.specs.Layout.{helps};
+ghost use Rattle.code.specs.Code.{helps};
 ghost use Rattle.shape.specs.Outages.{count};
 ghost use Rattle.std.specs.declared.result.Result.the-variants.{Ok};
 ghost use Rattle.vault.specs.Calls.{wrong-size};

@@ -50,7 +50,6 @@ returns-in-Break-rebuild g c =
     let q = c .args .shape .q in
     let t = c .args .shape .t in
     let f = g .F·Field .arith in
-    let laws = g .F·Field·met .lawful in
     let s = shaped (c .args .shape) in
     let m = g .R·Rack .model (c .args .rack .now) in
     let m1 = g .R·Rack .model (c .draw .last .rack) in
@@ -71,7 +70,7 @@ returns-in-Break-rebuild g c =
     (record {
       call =
         subst (λ o. NotRepaired f q t m i e m1 o) (sym (repair-none f q t m i (length s0) sized (c .in-Continue-roomy .ensures tt) li out few))
-        (bad .0, sym (same-help f laws q t s i li m m1 s0 s1 sized out few all-drawn gathered) ∙ bad .1, help-drawn f laws q t s i li m m1 s0 s1 sized out few all-drawn gathered);
+        (bad .0, sym (same-help f q t s i li m m1 s0 s1 sized out few all-drawn gathered) ∙ bad .1, help-drawn f q t s i li m m1 s0 s1 sized out few all-drawn gathered);
       space =
         space-drew (q * t * q ^ t) e s0 (c .rebuild .last .words) (ap drew (bad .0))
         (ap (λ x. drop (q * t * q ^ t) x) (rebuilt .1) ∙ gathered-rest (q * t) (q ^ t) (m .flags) (takes q (Helping i)) (m .words) s0 s1 (places-positive s) (c .draw .kept .space) gathered);
@@ -83,7 +82,6 @@ returns g c =
     let q = c .args .shape .q in
     let t = c .args .shape .t in
     let f = g .F·Field .arith in
-    let laws = g .F·Field·met .lawful in
     let s = shaped (c .args .shape) in
     let m = g .R·Rack .model (c .args .rack .now) in
     let m1 = g .R·Rack .model (c .draw .last .rack) in
@@ -102,13 +100,13 @@ returns g c =
     record {
       call = (
         repair-none f q t m i (length s0) sized (c .in-Continue-roomy .ensures tt) li out few,
-        sym (same-help f laws q t s i li m m1 s0 s1 sized out few all-drawn gathered) ∙ rebuild-good f q t i s1 room li (rebuilt .0),
+        sym (same-help f q t s i li m m1 s0 s1 sized out few all-drawn gathered) ∙ rebuild-good f q t i s1 room li (rebuilt .0),
         ap (λ n. answer 1 n) (ap₂ (λ a b. (a - 1) * b) (c .nodes-2 .ensures) (c .helper-places .ensures)),
         (
           laid (q ^ t) s2 i,
           (
-            same-refill f laws q t s i li m m1 s0 s1 sized out few all-drawn gathered (laid (q ^ t) s2 i) (rebuilt .1),
-            repaired-now f laws q t s i li m m1 s0 s1 sized out few all-drawn gathered (laid (q ^ t) s2 i) (g .R·Rack .model (c .write-node .last .rack)) (c .write-node .ensures .after),
+            same-refill f q t s i li m m1 s0 s1 sized out few all-drawn gathered (laid (q ^ t) s2 i) (rebuilt .1),
+            repaired-now f q t s i li m m1 s0 s1 sized out few all-drawn gathered (laid (q ^ t) s2 i) (g .R·Rack .model (c .write-node .last .rack)) (c .write-node .ensures .after),
           ),
         ),
       );

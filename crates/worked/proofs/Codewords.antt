@@ -4,8 +4,7 @@ use mathlib.Core.Bool.{true, false}
 use mathlib.Core.List.{List}
 use Prim.Native.Nat.{ℕ, _-_, _*_, _^_, _<_}
 use lib.Dec.{eqb, leb, ltb}
-use Rattle.code.specs.Calls.{Encodes}
-use Rattle.code.specs.Code.{Words, laid, check, elements, Codeword, Carries}
+use Rattle.code.specs.Code.{Words, laid, check, elements, Codeword, Carries, Encodes}
 use Rattle.code.proofs.Words.{zero-from}
 use Rattle.field.specs.Field.{Arith, Laws}
 use Rattle.shape.specs.Outages.{count}

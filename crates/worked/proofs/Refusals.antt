@@ -1,32 +1,31 @@
 -- A recover that finds an altered word. Assumes nothing.
 use mathlib.Core.Path.{_≡_, refl, sym, ap, subst, _∙_}
-use mathlib.Core.Bool.{Bool, true, false, cond, not}
+use mathlib.Core.Bool.{true, false, cond}
 use mathlib.Core.List.{List}
-use Prim.Native.Nat.{ℕ, _*_, _^_, _<_, _≤_}
+use Prim.Native.Nat.{ℕ, _*_, _^_, _<_}
 use native.Mathlib.Omega.{arith}
-use lib.Dec.{eqb, leb, ltb}
-use Rattle.code.specs.Calls.{Agrees, good-standing}
-use Rattle.code.specs.Code.{Words}
+use lib.Dec.{eqb, ltb}
+use Rattle.code.specs.Calls.{good-standing}
+use Rattle.code.specs.Code.{Words, Agrees}
 use Rattle.field.specs.Field.{Arith, Laws}
 use Rattle.rack.specs.Model.{Model, changed}
 use Rattle.rack.proofs.Models.{changed-same, changed-other}
 use Rattle.refusal.specs.declared.reason.Refusal.{Refusal}
-use Rattle.refusal.specs.declared.reason.Refusal.the-variants.{Size, WorkSpace, TooManyOut, NoCodeword}
 use Rattle.refusal.specs.Numbers.{number-of}
 use Rattle.shape.specs.Outages.{count, every, among}
 use Rattle.shape.proofs.Every.{every-from}
-use Rattle.std.proofs.shelf.Tests.{cond-both, eqb-false, leb-true, le-ltb, lt-ltb, ltb-true, not-true, not-from-false, or-parts, true≢false}
-use Rattle.std.specs.declared.option.Option.the-variants.{None}
+use Rattle.std.proofs.shelf.Tests.{cond-both, eqb-false, leb-true, lt-ltb, ltb-true, not-true, not-from-false, or-parts}
 use Rattle.std.specs.declared.result.Result.{Result}
 use Rattle.std.specs.declared.result.Result.the-variants.{Ok, Err}
-use Rattle.vault.specs.Calls.{wrong-size, short, out-count, recover-refusal, NotRecovered, Unrecovered, Recover}
+use Rattle.vault.specs.Calls.{short, NotRecovered, Unrecovered, Recover}
 use Rattle.vault.specs.declared.answer.Answer.{Answer}
 use Rattle.vault.proofs.Codewords.{only-codeword}
-use Rattle.vault.proofs.Refusing.{first-pass}
+use Rattle.vault.proofs.Recovering.{recover-none}
+use Rattle.vault.proofs.Refusing.{right-size}
 use Rattle.worked.specs.Racks.{altered, Holding, Refused}
 use Rattle.worked.proofs.Codewords.{code-at, shape-of, codeword-of}
 use Rattle.worked.proofs.Repairs.{outs}
-use Rattle.worked.proofs.Tests.{all, passed, at-fault, are-codes, refuses-tests}
+use Rattle.worked.proofs.Tests.{all, passed, at-fault, refuses-tests}
 
 module _ {E : Type 0} (f : Arith E) (laws : Laws f) (q t : ℕ) (w : Words) (i p word : ℕ) (out : List ℕ) (e : all (refuses-tests f q t w i p word out) ≡ true) where
   module _ (m : Model) (held : Holding q t (altered w i p word) out m) where
@@ -67,9 +66,8 @@ module _ {E : Type 0} (f : Arith E) (laws : Laws f) (q t : ℕ) (w : Words) (i p
       let h = passed (refuses-tests f q t w i p word out) e in
       let few = leb-true (count (among out) (q * t)) q (h .1 .1 .1 .1 .1 .1 .0) in
       let n = outs f q t (altered w i p word) m out held in
-      let none : recover-refusal f q t m space ≡ None
-      = first-pass (wrong-size q t m) Size _ (held .sized) ∙ first-pass (short q t space) WorkSpace _ room
-      ∙ first-pass (ltb q (out-count q t m)) TooManyOut None (le-ltb q (out-count q t m) (omega arith)) in
+      let size = right-size q t m (held .sized) in
+      let none = recover-none f q t m space (size .0) (size .1) room (omega arith) in
       let u = subst (λ o. NotRecovered f q t m x m′ o) none s in
       let v = subst (λ b. Unrecovered f q t m x b) (good m held) (u .1) in
       (x, refl, ap number-of (v .0))

@@ -5,13 +5,13 @@ use mathlib.Core.List.{List, [], _∷_}
 use Prim.Native.Nat.{ℕ, _^_}
 use lib.Dec.{eqb, ltb}
 use lib.ListN.{length, getD}
-use Rattle.code.specs.Code.{power, total, moment, uncoupled}
+use Rattle.code.specs.Code.{helps, power, total, moment, uncoupled}
 use Rattle.field.specs.ByteField.{times-x, times-bits, multiply}
 use Rattle.field.specs.ByteField.{power as byte-power}
 use Rattle.field.specs.PrimeField.{power as prime-power}
 use Rattle.refusal.specs.Numbers.{number-of}
 use Rattle.refusal.specs.declared.reason.Refusal.the-variants as reason
-use Rattle.shape.specs.Layout.{is-shape, row, column, node-at, digit, with-digit, companion-node, companion-place, helps}
+use Rattle.shape.specs.Layout.{is-shape, row, column, node-at, digit, with-digit, companion-node, companion-place}
 use Rattle.shape.specs.Outages.{count, every, listed}
 use Rattle.shape.proofs.Every.{every-at}
 use Rattle.std.proofs.shelf.Tests.{eqb-true, ltb-true, not-true}

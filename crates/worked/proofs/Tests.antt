@@ -5,9 +5,10 @@ use mathlib.Core.List.{List, [], _∷_}
 use Prim.Native.Nat.{ℕ, _-_, _*_, _^_, _<_}
 use lib.Dec.{eqb, leb, ltb}
 use lib.ListN.{length, getD}
-use Rattle.code.specs.Code.{Words, laid, check, elements}
+use Rattle.code.specs.Calls.{good-help}
+use Rattle.code.specs.Code.{Words, laid, helps, check, elements}
 use Rattle.field.specs.Field.{Arith}
-use Rattle.shape.specs.Layout.{is-shape, helps}
+use Rattle.shape.specs.Layout.{is-shape}
 use Rattle.shape.specs.Outages.{count, every, listed, among}
 use Rattle.shape.proofs.Every.{every-at}
 use Rattle.std.proofs.shelf.Tests.{eqb-true, false≢true}
@@ -69,7 +70,7 @@ module _ {E : Type 0} (f : Arith E) (q t : ℕ) where
   abbrev pub repairs-tests : Words → ℕ → List ℕ → ℕ → List ℕ → List Bool
   repairs-tests w i places drawn refill =
       all (codeword-tests w) ∷ ltb i (q * t) ∷ eqb (count (among (i ∷ [])) (q * t)) 1 ∷ same (listed (helps q i) (q ^ t)) places ∷
-      eqb (q ^ (t - 1)) (length places) ∷ eqb ((q * t - 1) * q ^ (t - 1)) drawn ∷ every (λ p. eqb (w i p) (getD refill p 0)) (q ^ t) ∷ []
+      eqb (q ^ (t - 1)) (length places) ∷ eqb ((q * t - 1) * q ^ (t - 1)) drawn ∷ every (λ p. eqb (w i p) (getD refill p 0)) (q ^ t) ∷ good-help f q t w i ∷ []
 
   -- the nodes that are out, and the one with the altered word
   abbrev pub at-fault : List ℕ → ℕ → ℕ → Bool

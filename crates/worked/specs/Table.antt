@@ -4,8 +4,7 @@ use mathlib.Core.Bool.{true, false}
 use mathlib.Core.List.{List, [], _∷_, _++_}
 use Prim.Native.Nat.{ℕ, _*_, _^_, _<_}
 use lib.ListN.{length, getD}
-use Rattle.code.specs.Calls.{Encodes}
-use Rattle.code.specs.Code.{Words, laid}
+use Rattle.code.specs.Code.{Words, laid, helps, Encodes}
 use Rattle.field.specs.ByteField.{byte-arith}
 use Rattle.field.specs.Field.{Arith}
 use Rattle.field.specs.PrimeField.{prime-arith}
@@ -15,7 +14,7 @@ use Rattle.rack.specs.Model.{Model}
 use Rattle.refusal.specs.Numbers.{number-of}
 use Rattle.refusal.specs.declared.reason.Refusal.{Refusal}
 use Rattle.refusal.specs.declared.reason.Refusal.the-variants as reason
-use Rattle.shape.specs.Layout.{is-shape, digit, companion-node, companion-place, helps}
+use Rattle.shape.specs.Layout.{is-shape, digit, companion-node, companion-place}
 use Rattle.shape.specs.Outages.{listed}
 use Rattle.std.specs.declared.result.Result.{Result}
 use Rattle.vault.specs.Calls.{short, Repair, Recover}

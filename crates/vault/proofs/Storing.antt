@@ -27,7 +27,7 @@ module _ (q t : ℕ) (m m′ : Model) (nodes s : List ℕ) (size : wrong-size q 
     same-places = ap (λ x. x .places) wrote;
     has-flags = λ i l. ap (λ x. x .flags i) wrote ∙ ap (λ b. cond b true (m .flags i)) (every-one i l);
     has-words = λ i p l lp.
-      ap (λ x. x .words i p) wrote
-      ∙ ap₂ (λ b d. cond b (cond d (laid (q ^ t) s i p) (m .words i p)) (m .words i p)) (every-one i l) (lt-ltb p (m .places) (omega (arith, right-size q t m size .1)));
+        ap (λ x. x .words i p) wrote
+        ∙ ap₂ (λ b d. cond b (cond d (laid (q ^ t) s i p) (m .words i p)) (m .words i p)) (every-one i l) (lt-ltb p (m .places) (omega (arith, right-size q t m size .1)));
     has-meters = λ i l. ap (λ x. x .meters i) wrote;
   }

@@ -1,9 +1,9 @@
 -- Words that pass the tests of a codeword are one, and the only one that carries its message. Assumes nothing.
 use mathlib.Core.Path.{_≡_, sym, _∙_}
-use mathlib.Core.Bool.{true, false}
+use mathlib.Core.Bool.{true}
 use mathlib.Core.List.{List}
 use Prim.Native.Nat.{ℕ, _-_, _*_, _^_, _<_}
-use lib.Dec.{eqb, leb, ltb}
+use lib.Dec.{eqb, ltb}
 use Rattle.code.specs.Code.{Words, laid, check, elements, Codeword, Carries, Encodes}
 use Rattle.code.proofs.Words.{zero-from}
 use Rattle.field.specs.Field.{Arith, Laws}

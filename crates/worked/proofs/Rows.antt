@@ -1,8 +1,8 @@
 -- Every row of the table passes its test, and a row that passes holds. Assumes nothing.
-use mathlib.Core.Path.{_≡_, refl, ap, subst, _∙_}
-use mathlib.Core.Bool.{Bool, true, false, not}
+use mathlib.Core.Path.{_≡_, refl, subst}
+use mathlib.Core.Bool.{Bool, true, not}
 use mathlib.Core.List.{List, [], _∷_}
-use Prim.Native.Nat.{ℕ, _^_}
+use Prim.Native.Nat.{_^_}
 use lib.Dec.{eqb, ltb}
 use lib.ListN.{length, getD}
 use Rattle.code.specs.Code.{helps, power, total, moment, uncoupled}
@@ -16,7 +16,7 @@ use Rattle.shape.specs.Outages.{count, every, listed}
 use Rattle.shape.proofs.Every.{every-at}
 use Rattle.std.proofs.shelf.Tests.{eqb-true, ltb-true, not-true}
 use Rattle.worked.specs.Racks.{Refused}
-use Rattle.worked.specs.Table.{Kind, Row, multiplies, inverts, shapes, shapes-not, has-digits, accompanies, encodes, repairs, refuses, field-of, all-words, Holds, AllHold, table}
+use Rattle.worked.specs.Table.{Row, multiplies, inverts, shapes, shapes-not, has-digits, accompanies, encodes, repairs, refuses, field-of, all-words, Holds, AllHold, table}
 use Rattle.worked.proofs.Fields.{laws-of}
 use Rattle.worked.proofs.Tests.{all, passed, same-numbers, encodes-tests, repairs-tests, refuses-tests}
 use Rattle.worked.proofs.Codewords.{encodes-from}

@@ -69,11 +69,11 @@ returns-in-Break-restore g c =
     rw (p .1, p .2)
     (record {
       call =
-        subst (λ o. NotRecovered f q t m e m1 o) (sym (recover-none f q t m (length s0) (size .0) (size .1) (c .in-Continue-roomy .ensures tt) (omega arith)))
-        (drawn-now f q t m m1 nodes s0 s1 sized (c .outages-out .ensures .list) all-drawn gathered, told .0);
+          subst (λ o. NotRecovered f q t m e m1 o) (sym (recover-none f q t m (length s0) (size .0) (size .1) (c .in-Continue-roomy .ensures tt) (omega arith)))
+          (drawn-now f q t m m1 nodes s0 s1 sized (c .outages-out .ensures .list) all-drawn gathered, told .0);
       space =
-        space-drew (q * t * q ^ t) e s0 s2 (told .1)
-        (parts .1 ∙ gathered-rest (q * t) (q ^ t) (m .flags) (takes q All) (m .words) s0 s1 (places-positive (shaped (c .args .shape))) (c .draw .kept .space) gathered);
+          space-drew (q * t * q ^ t) e s0 s2 (told .1)
+          (parts .1 ∙ gathered-rest (q * t) (q ^ t) (m .flags) (takes q All) (m .words) s0 s1 (places-positive (shaped (c .args .shape))) (c .draw .kept .space) gathered);
       stays = c .draw .ensures .stays;
     })
 

@@ -69,11 +69,11 @@ returns-in-Break-rebuild g c =
     rw (p .1, p .2)
     (record {
       call =
-        subst (λ o. NotRepaired f q t m i e m1 o) (sym (repair-none f q t m i (length s0) sized (c .in-Continue-roomy .ensures tt) li out few))
-        (bad .0, sym (same-help f q t s i li m m1 s0 s1 sized out few all-drawn gathered) ∙ bad .1, help-drawn f q t s i li m m1 s0 s1 sized out few all-drawn gathered);
+          subst (λ o. NotRepaired f q t m i e m1 o) (sym (repair-none f q t m i (length s0) sized (c .in-Continue-roomy .ensures tt) li out few))
+          (bad .0, sym (same-help f q t s i li m m1 s0 s1 sized out few all-drawn gathered) ∙ bad .1, help-drawn f q t s i li m m1 s0 s1 sized out few all-drawn gathered);
       space =
-        space-drew (q * t * q ^ t) e s0 (c .rebuild .last .words) (ap drew (bad .0))
-        (ap (λ x. drop (q * t * q ^ t) x) (rebuilt .1) ∙ gathered-rest (q * t) (q ^ t) (m .flags) (takes q (Helping i)) (m .words) s0 s1 (places-positive s) (c .draw .kept .space) gathered);
+          space-drew (q * t * q ^ t) e s0 (c .rebuild .last .words) (ap drew (bad .0))
+          (ap (λ x. drop (q * t * q ^ t) x) (rebuilt .1) ∙ gathered-rest (q * t) (q ^ t) (m .flags) (takes q (Helping i)) (m .words) s0 s1 (places-positive s) (c .draw .kept .space) gathered);
       stays = c .draw .ensures .stays;
     })
 
@@ -111,7 +111,7 @@ returns g c =
         ),
       );
       space =
-        rest-others q t i s1 s2 li (c .rebuild .kept .words) (rebuilt .2)
-        ∙ gathered-rest (q * t) (q ^ t) (m .flags) (takes q (Helping i)) (m .words) s0 s1 (places-positive s) (c .draw .kept .space) gathered;
+          rest-others q t i s1 s2 li (c .rebuild .kept .words) (rebuilt .2)
+          ∙ gathered-rest (q * t) (q ^ t) (m .flags) (takes q (Helping i)) (m .words) s0 s1 (places-positive s) (c .draw .kept .space) gathered;
       stays = g .R·Rack .keeping .joined (c .args .rack .now) (c .draw .last .rack) (c .write-node .last .rack) (c .draw .ensures .stays) (c .write-node .ensures .stays);
     }

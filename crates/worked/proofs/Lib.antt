@@ -1,0 +1,6 @@
+pub mod Fields
+pub mod Tests
+pub mod Codewords
+pub mod Repairs
+pub mod Refusals
+pub mod Rows

@@ -1,4 +1,21 @@
 // A vault on a table rack, driven by lines.
+ghost use mathlib.Core.Path.{_≡_};
+ghost use mathlib.Core.Bool.{true, false};
+ghost use mathlib.Core.List.{List, _++_};
+ghost use Prim.Native.Nat.{ℕ, _*_, _^_};
+ghost use Rattle.lines.specs.Requests.{requested};
+ghost use Rattle.rack.specs.Model.{fresh};
+ghost use Rattle.rack.specs.Table.{table-model};
+ghost use Rattle.refusal.specs.declared.reason.Refusal.the-variants as reason;
+ghost use Rattle.shape.specs.Layout.{is-shape};
+ghost use Rattle.std.specs.Of.String.{string-bytes};
+ghost use Rattle.std.specs.Of.Vec.{vec-items};
+ghost use Rattle.std.specs.Results.{Cases};
+ghost use Rattle.std.specs.Vec.{made};
+ghost use Rattle.console.specs.Session.{Answered, Begun, Replied, closed, opening, after-opening, reply-line, state-of};
+use crate::calls::Reply;
+use crate::calls::call;
+use crate::calls::plain;
 use field::ByteField;
 use field::ByteFieldField;
 use field::Field;
@@ -20,37 +37,29 @@ use std::alloc::Global;
 use vault::Answer;
 use vault::Vault;
 
-// What a call answered; after a read, the words.
-fn print_answer(
-    out: &mut String,
-    answer: Result<Answer, Refusal>,
-    words: &[u16],
-) -> Result<(), AllocError> {
-    match answer {
-        Ok(a) => print_ok(out, a.filled, a.drawn, words),
-        Err(why) => print_no(out, why),
+// Prints a reply.
+fn print_reply(out: &mut String, reply: Reply) -> Result<(), AllocError>
+    ensures { λ r. ⌜ made r (λ _. string-bytes (now (out .exit)) ≡ string-bytes (now (out .entry)) ++ reply-line (reply .answer) (vec-items (reply .words))) ⌝ }
+{
+    match reply.answer {
+        None => print_bad(out),
+        Some(Ok(a)) => print_ok(out, a.filled, a.drawn, reply.words.as_slice()),
+        Some(Err(why)) => print_no(out, why),
     }
 }
 
-// An open vault with its work space.
 #[derive(Drop)]
-struct Opened<F> {
-    vault: Vault<F, TableRack>,
-    space: Vec<u16>,
-}
-
-#[derive(Drop)]
-enum State {
+enum Inner {
     Closed,
-    Byte(Opened<ByteField>),
-    Prime(Opened<PrimeField>),
+    Byte(Vault<ByteField, TableRack>),
+    Prime(Vault<PrimeField, TableRack>),
 }
 
 // What a session is: no vault before the first accepted shape, and one vault after it.
 #[derive(Drop)]
 pub struct Session {
     heap: Global,
-    state: State,
+    inner: Inner,
 }
 
 // A vault of q rows and t columns on a new table rack, or why there is none.
@@ -59,95 +68,97 @@ fn open<F: Field + Drop>(
     field: F,
     q: u16,
     t: u16,
-) -> Result<Result<Opened<F>, Refusal>, AllocError> {
+) -> Result<Result<Vault<F, TableRack>, Refusal>, AllocError>
+    ensures { λ r. ⌜ made r (λ x. Cases x (λ v. (is-shape q t ≡ true) × (v .shape .q ≡ q) × (v .shape .t ≡ t) × (table-model (v .rack) ≡ fresh (q * t) (q ^ t))) (λ e. (is-shape q t ≡ false) × (e ≡ reason.Shape))) ⌝ }
+{
     let shape = match Shape::new(usize::from(q), usize::from(t)) {
         Ok(shape) => shape,
         Err(why) => return Ok(Err(why)),
     };
     let rack = match TableRack::new(heap, shape.nodes(), shape.places()) {
         Ok(rack) => rack,
-        Err(TableError::Refused(why)) => return Ok(Err(why)),
-        Err(TableError::NoMemory) => return Err(AllocError),
+        Err(error) => match error {
+            TableError::Refused(why) => return Ok(Err(why)),
+            TableError::NoMemory => return Err(AllocError),
+        },
     };
-    let space = Vec::from_elem(heap, 0u16, shape.words())?;
     match Vault::open(shape, field, rack) {
-        Ok(vault) => Ok(Ok(Opened { vault, space })),
+        Ok(vault) => Ok(Ok(vault)),
         Err(back) => Ok(Err(back.why)),
     }
 }
 
-impl<F: Field + Drop> Opened<F> {
-    // Reads words of the message and prints them.
-    fn read(
-        &mut self,
-        heap: Global,
-        start: u16,
-        count: u16,
-        out: &mut String,
-    ) -> Result<(), AllocError> {
-        let mut buffer = Vec::from_elem(heap, 0u16, usize::from(count))?;
-        let answer = self.vault.read(usize::from(start), buffer.as_mut_slice());
-        print_answer(out, answer, buffer.as_slice())
-    }
-
-    // Makes a call and prints what it answers. No second vault is opened.
-    fn call(&mut self, heap: Global, command: Command, out: &mut String) -> Result<(), AllocError> {
-        let space = self.space.as_mut_slice();
-        let answer = match command {
-            Command::Open(_, _, _) => return print_bad(out),
-            Command::Read(start, count) => return self.read(heap, start, count, out),
-            Command::Store(message) => self.vault.store(message.as_slice(), space),
-            Command::DropNode(i) => self.vault.drop_node(usize::from(i)),
-            Command::Alter(i, p, w) => self.vault.alter(usize::from(i), usize::from(p), w),
-            Command::Repair(i) => self.vault.repair(usize::from(i), space),
-            Command::Recover => self.vault.recover(space),
-        };
-        print_answer(out, answer, &[])
-    }
-}
-
 impl Session {
-    pub fn new(heap: Global) -> Session {
+    // A session without a vault.
+    pub fn new(heap: Global) -> Session
+        ensures { λ r. ⌜ state-of r ≡ closed ⌝ }
+    {
         Session {
             heap,
-            state: State::Closed,
+            inner: Inner::Closed,
         }
     }
 
     // Opens the vault, if the numbers are a shape.
-    fn first(&mut self, kind: Kind, q: u16, t: u16) -> Result<Result<Answer, Refusal>, AllocError> {
+    fn first(&mut self, kind: Kind, q: u16, t: u16) -> Result<Result<Answer, Refusal>, AllocError>
+        requires { ⌜ state-of (now self) ≡ closed ⌝ }
+        ensures { λ r. ⌜ made r (λ x. (x ≡ opening q t) × (state-of (now (self .exit)) ≡ after-opening kind q t)) ⌝ }
+    {
         let opened = Answer {
             filled: 0,
             drawn: 0,
         };
         match kind {
             Kind::Byte => match open(self.heap, ByteField, q, t)? {
-                Ok(o) => self.state = State::Byte(o),
+                Ok(o) => {
+                    self.inner = Inner::Byte(o);
+                    return Ok(Ok(opened));
+                }
                 Err(why) => return Ok(Err(why)),
             },
             Kind::Prime => match open(self.heap, PrimeField, q, t)? {
-                Ok(o) => self.state = State::Prime(o),
+                Ok(o) => {
+                    self.inner = Inner::Prime(o);
+                    return Ok(Ok(opened));
+                }
                 Err(why) => return Ok(Err(why)),
             },
         }
-        Ok(Ok(opened))
     }
 
-    // Answers one line, without its line end.
-    pub fn answer(&mut self, line: &[u8], out: &mut String) -> Result<(), AllocError> {
+    // Replies before there is a vault: only a shape is taken.
+    fn begin(&mut self, command: Command) -> Result<Reply, AllocError>
+        requires { ⌜ state-of (now self) ≡ closed ⌝ }
+        ensures { λ r. ⌜ made r (λ y. Begun (requested command) (y .answer) (vec-items (y .words)) (state-of (now (self .exit)))) ⌝ }
+    {
+        match command {
+            Command::Open(kind, q, t) => {
+                let answer = self.first(kind, q, t)?;
+                Ok(plain(self.heap, Some(answer)))
+            }
+            _ => Ok(plain(self.heap, None)),
+        }
+    }
+
+    // Replies to a command.
+    fn reply(&mut self, command: Command) -> Result<Reply, AllocError>
+        ensures { λ r. ⌜ made r (λ y. Replied (requested command) (state-of (now (self .entry))) (y .answer) (vec-items (y .words)) (state-of (now (self .exit)))) ⌝ }
+    {
+        match &mut self.inner {
+            Inner::Byte(v) => call(self.heap, v, command),
+            Inner::Prime(v) => call(self.heap, v, command),
+            Inner::Closed => self.begin(command),
+        }
+    }
+
+    // Answers one line, without its line end. Where memory is wanting, what was printed is not said.
+    pub fn answer(&mut self, line: &[u8], out: &mut String) -> Result<(), AllocError>
+        ensures { λ r. ⌜ made r (λ _. ((bytes : List ℕ) × ((string-bytes (now (out .exit)) ≡ string-bytes (now (out .entry)) ++ bytes) × Answered (state-of (now (self .entry))) (now (line .entry)) bytes (state-of (now (self .exit)))))) ⌝ }
+    {
         let Some(command) = parse(self.heap, line)? else {
             return print_bad(out);
         };
-        match &mut self.state {
-            State::Byte(o) => o.call(self.heap, command, out),
-            State::Prime(o) => o.call(self.heap, command, out),
-            State::Closed => match command {
-                Command::Open(kind, q, t) => {
-                    let answer = self.first(kind, q, t)?;
-                    print_answer(out, answer, &[])
-                }
-                _ => print_bad(out),
-            },
-        }
+        let reply = self.reply(command)?;
+        print_reply(out, reply)
     }
 }

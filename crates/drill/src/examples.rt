@@ -54,7 +54,7 @@ fn repair_without<R: Rack + Drop>(
 }
 
 // A line for each example.
-pub fn examples<R: Rack + Drop>(
+pub(crate) fn examples<R: Rack + Drop>(
     heap: Global,
     vault: &mut Vault<ByteField, R>,
 ) -> Result<String, AllocError> {

@@ -21,7 +21,7 @@ pub enum Call {
 }
 
 // Makes the bytes the image of a rack with 4 places, whose nodes are out and whose words are 0.
-pub fn clear(bytes: &mut [u8]) {
+pub(crate) fn clear(bytes: &mut [u8]) {
     for (at, byte) in bytes.iter_mut().enumerate() {
         *byte = match at % 12 {
             0 => 0xC5,
@@ -59,7 +59,7 @@ fn call_on_pair<A: Rack + Drop, B: Rack + Drop>(
 }
 
 // Makes a call of a vault on the images of two rooms, each of 2 nodes with 4 places.
-pub fn call_on_rooms(
+pub(crate) fn call_on_rooms(
     shape: Shape,
     first: &mut [u8],
     second: &mut [u8],

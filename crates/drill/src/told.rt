@@ -4,7 +4,7 @@ use std::alloc::AllocError;
 use std::alloc::Global;
 use vault::Answer;
 
-pub fn told(heap: Global, answer: Result<Answer, Refusal>) -> Result<String, AllocError> {
+pub(crate) fn told(heap: Global, answer: Result<Answer, Refusal>) -> Result<String, AllocError> {
     match answer {
         Ok(a) => {
             let filled = a.filled;
@@ -16,7 +16,7 @@ pub fn told(heap: Global, answer: Result<Answer, Refusal>) -> Result<String, All
 }
 
 // Adds a line: what was called, and what it answered.
-pub fn add_line(
+pub(crate) fn add_line(
     out: &mut String,
     heap: Global,
     called: &str,
@@ -28,7 +28,7 @@ pub fn add_line(
 }
 
 // The number of a refusal, and where an image is malformed.
-pub fn refused(heap: Global, why: Refusal) -> Result<String, AllocError> {
+pub(crate) fn refused(heap: Global, why: Refusal) -> Result<String, AllocError> {
     let number = why.number();
     match why {
         Refusal::Image(fault) => {

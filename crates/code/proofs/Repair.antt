@@ -23,7 +23,7 @@ use Rattle.code.proofs.Uncoupling.{uncoupled-own, uncoupled-pair, uncoupled-co
 use Rattle.code.proofs.OnlyOne.{nodes-apart, sum-none}
 use Rattle.code.proofs.Completion.{Solves, solution-solves}
 
-count-add : (g : ℕ → Bool) (a b : ℕ) → count g (a + b) ≡ count g a + count (λ j. g (a + j)) b
+pub count-add : (g : ℕ → Bool) (a b : ℕ) → count g (a + b) ≡ count g a + count (λ j. g (a + j)) b
 unfolding count
 count-add g a zero = ap (count g) (add-zero a) ∙ sym (add-zero (count g a))
 count-add g a (suc b) =

@@ -11,9 +11,9 @@ use lib.ListN.{length, getD, drop}
 use Rattle.std.proofs.shelf.Tests.{cases-bool, lt-ltb, le-ltb, cond-true, cond-false, and-left, true≢false}
 use Rattle.field.specs.Field.{Arith}
 use Rattle.shape.specs.Outages.{every}
-use Rattle.shape.proofs.Every.{every-from, every-at}
 use Rattle.code.specs.Code.{Words, laid, Agrees, OnlyAgrees}
 use Rattle.code.specs.Calls.{NoneAgrees, Restored, restore-refusal, good-standing, standing, Rest}
+use Rattle.code.proofs.Codes.{every-same}
 use Rattle.code.proofs.Solutions.{rest-kept}
 use Rattle.refusal.specs.declared.reason.Refusal.{Refusal}
 use Rattle.refusal.specs.declared.reason.Refusal.the-variants.{BadWord, NoCodeword}
@@ -22,12 +22,6 @@ use Rattle.std.specs.declared.option.Option.the-variants.{Some, None}
 use Rattle.std.specs.declared.result.Result.the-variants.{Ok, Err}
 use Rattle.vault.specs.Calls.{drew, Space}
 use Rattle.vault.specs.Steps.{Gathered}
-
--- two tests of all nodes that agree
-pub every-alike : (g h : ℕ → Bool) (n : ℕ) → ((i : ℕ) → i < n → g i ≡ h i) → every g n ≡ every h n
-unfolding every
-every-alike g h zero e = refl
-every-alike g h (suc n) e = ap₂ (λ a b. cond a b false) (every-alike g h n (λ i l. e i (omega arith))) (e n (omega arith))
 
 -- words past those of all nodes are as they were
 pub gathered-rest : (n P : ℕ) (flags test : ℕ → Bool) (words : Words) (before after : List ℕ) → 0 < P → length after ≡ length before
@@ -60,12 +54,12 @@ module _ {E : Type 0} (f : Arith E) (q t : ℕ) (g h : ℕ → Bool) (v w : Word
 
   -- and their standing words are codes alike
   pub good-too : good-standing f q t g v ≡ good-standing f q t h w
-  good-too = every-alike (λ i. cond (g i) (every (λ p. ltb (v i p) (f .size)) (q ^ t)) true) (λ i. cond (h i) (every (λ p. ltb (w i p) (f .size)) (q ^ t)) true) (q * t) (λ i l. go i l (cases-bool (h i)))
+  good-too = every-same (λ i. cond (g i) (every (λ p. ltb (v i p) (f .size)) (q ^ t)) true) (λ i. cond (h i) (every (λ p. ltb (w i p) (f .size)) (q ^ t)) true) (q * t) (λ i l. go i l (cases-bool (h i)))
     where
       go : (i : ℕ) → i < q * t → (h i ≡ true) ⊎ (h i ≡ false) → cond (g i) (every (λ p. ltb (v i p) (f .size)) (q ^ t)) true ≡ cond (h i) (every (λ p. ltb (w i p) (f .size)) (q ^ t)) true
       go i l (inl up) =
           cond-true (g i) (every (λ p. ltb (v i p) (f .size)) (q ^ t)) true (same-stands i l ∙ up)
-          ∙ every-alike (λ p. ltb (v i p) (f .size)) (λ p. ltb (w i p) (f .size)) (q ^ t) (λ p lp. ap (λ x. ltb x (f .size)) (same-words i p l lp up))
+          ∙ every-same (λ p. ltb (v i p) (f .size)) (λ p. ltb (w i p) (f .size)) (q ^ t) (λ p lp. ap (λ x. ltb x (f .size)) (same-words i p l lp up))
           ∙ sym (cond-true (h i) (every (λ p. ltb (w i p) (f .size)) (q ^ t)) true up)
       go i l (inr down) =
           cond-false (g i) (every (λ p. ltb (v i p) (f .size)) (q ^ t)) true (same-stands i l ∙ down)

@@ -11,6 +11,7 @@ use lib.Dec.{eqb, ltb}
 use lib.ListN.{length, getD, set}
 use Rattle.std.proofs.shelf.Lists.{getD-set-same, getD-set-other}
 use Rattle.std.proofs.shelf.Tests.{cases-eq, eq-eqb, ne-eqb, le-ltb, cond-true, cond-false}
+use Rattle.code.proofs.Codes.{every-same}
 use Rattle.shape.specs.Outages.{count, every}
 use Rattle.shape.proofs.Counts.{count-more}
 use Rattle.shape.proofs.Every.{every-at}
@@ -99,11 +100,6 @@ module _ (q t start len k P : ℕ) (m0 m : Model) (sized : (m0 .nodes ≡ q * t)
   -- so getting it is not refused
   pub not-refused : (e : Refusal) → Err e ≡ got m ((start + k) / P) ((start + k) % P) → ⊥
   not-refused e was = got-was-err m ((start + k) / P) ((start + k) % P) e was word-node word-place word-stands
-
-every-same : (g h : ℕ → Bool) (n : ℕ) → ((j : ℕ) → j < n → g j ≡ h j) → every g n ≡ every h n
-unfolding every
-every-same g h zero e = refl
-every-same g h (suc n) e = ap₂ (λ a b. cond a b false) (every-same g h n (λ j l. e j (omega arith))) (e n (omega arith))
 
 -- the tests of a read
 module _ (q t start len : ℕ) (m : Model) (sized : wrong-size q t m ≡ false) (inside : start + len ≤ q * (t - 1) * q ^ t) (pos : 0 < q ^ t) where

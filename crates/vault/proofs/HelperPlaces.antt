@@ -3,21 +3,17 @@ use mathlib.Core.Path.{_≡_, refl, sym, ap, ap₂, _∙_}
 use mathlib.Core.Logic.{_⊎_, inl, inr}
 use mathlib.Core.Bool.{Bool, true, false, cond}
 use Prim.Native.Nat.{ℕ, zero, suc, _+_, _-_, _*_, _/_, _%_, _^_, _<_, _≤_}
-use native.Mathlib.Nat.{add-zero, add-suc, mul-zero, mul-suc, mul-comm, mul-one, mul-add, one-mul, pow-succ'}
+use native.Mathlib.Nat.{mul-zero, mul-suc, mul-comm, mul-one, mul-add, one-mul, pow-succ'}
 use native.Mathlib.Omega.{arith}
 use lib.Dec.{eqb}
 use lib.Pow.{pow-add}
 use Rattle.std.proofs.shelf.Bits.{div-mul-add, mod-mul-add}
 use Rattle.std.proofs.shelf.Tests.{cases-eq, cases-bool, eq-eqb, ne-eqb, cond-true, cond-false}
 use Rattle.code.specs.Code.{helps}
+use Rattle.code.proofs.Repair.{count-add}
 use Rattle.shape.specs.Layout.{digit, row, column}
 use Rattle.shape.specs.Outages.{count}
 use Rattle.shape.proofs.Counts.{count-same, count-none, count-all}
-
-count-add : (g : ℕ → Bool) (a b : ℕ) → count g (a + b) ≡ count g a + count (λ j. g (a + j)) b
-unfolding count
-count-add g a zero = ap (count g) (add-zero a) ∙ sym (add-zero (count g a))
-count-add g a (suc b) = let k = count-add g a b in ap (count g) (add-suc a b) ∙ omega arith
 
 -- a test that is the same over each block of b numbers
 block : (g : ℕ → Bool) (x : Bool) (b : ℕ) → ((v : ℕ) → v < b → g v ≡ x) → count g b ≡ b * cond x 1 0

@@ -4,21 +4,16 @@ use mathlib.Core.Bool.{Bool, true, false, cond}
 use mathlib.Core.List.{List, [], _∷_, _++_}
 use Prim.Native.Nat.{ℕ, zero, suc, _+_, _*_, _<_, _≤_}
 use native.Mathlib.Omega.{arith}
-use lib.ListN.{length, getD}
 use Rattle.std.proofs.shelf.Tests.{true≢false, cond-true, lt-ltb}
 use Rattle.shape.specs.Outages.{listed, rising}
 use Rattle.shape.proofs.Listed.{listed-push, listed-rising}
-use Rattle.shape.proofs.Rising.{rising-below, rising-next, rising-from}
+use Rattle.shape.proofs.Rising.{rising-wider}
 use Rattle.rack.specs.Model.{Model, standing}
 use Rattle.refusal.specs.declared.reason.Refusal.{Refusal}
 use Rattle.refusal.specs.declared.reason.Refusal.the-variants.{NoSuchPlace}
 use Rattle.std.specs.Results.{Cases}
 use Rattle.std.specs.declared.result.Result.{Result}
 use Rattle.std.specs.declared.result.Result.the-variants.{Ok, Err}
-
--- what rises below n rises below any larger number
-pub rising-wider : (n k : ℕ) (xs : List ℕ) → n ≤ k → rising n xs ≡ true → rising k xs ≡ true
-rising-wider n k xs l r = rising-from k xs (λ j lj. let b = rising-below n xs r j lj in omega arith) (rising-next n xs r)
 
 -- the next number that passes is not refused
 pub push-listed : (test : ℕ → Bool) (n i : ℕ) (before after : List ℕ) (r : Result (Unit {0}) Refusal) → i < n → test i ≡ true → before ≡ listed test i

@@ -16,6 +16,7 @@ use Rattle.shape.proofs.Counts.{count-same}
 use Rattle.shape.proofs.Digits.{row-bound, column-bound}
 use Rattle.code.specs.Code.{Words, laid, helps, SameHelp, OnlyRefill}
 use Rattle.code.specs.Calls.{Rest, HelpRefill, good-help, helper-codes, rebuild-refusal}
+use Rattle.code.proofs.Codes.{every-same}
 use Rattle.code.proofs.Solutions.{rest-kept}
 use Rattle.rack.specs.Model.{Model, changed, risen, node-within}
 use Rattle.rack.proofs.Models.{changed-same, changed-other, both}
@@ -26,7 +27,6 @@ use Rattle.std.specs.declared.option.Option.the-variants.{Some, None}
 use Rattle.vault.specs.declared.selection.Selection.the-variants.{Helping}
 use Rattle.vault.specs.Calls.{wrong-size, short, out-count, Now, repair-refusal, repair-meters}
 use Rattle.vault.specs.Steps.{takes, drawn-below, written, Gathered}
-use Rattle.vault.proofs.Carrying.{every-alike}
 use Rattle.vault.proofs.HelperPlaces.{helpers-count}
 use Rattle.vault.proofs.Refusing.{first-none, first-pass, first-here, right-size}
 use Rattle.vault.proofs.Tallies.{others-stand}
@@ -34,7 +34,7 @@ use Rattle.vault.proofs.Tallies.{others-stand}
 module _ {E : Type 0} (f : Arith E) (q t lost : ℕ) (v w : Words) (alike : SameHelp f q t lost v w) where
   -- their helper words are codes alike
   pub help-too : good-help f q t v lost ≡ good-help f q t w lost
-  help-too = every-alike (λ j. cond (eqb j lost) true (helper-codes f q t v lost j)) (λ j. cond (eqb j lost) true (helper-codes f q t w lost j)) (q * t) (λ j lj. go j lj (cases-eq j lost))
+  help-too = every-same (λ j. cond (eqb j lost) true (helper-codes f q t v lost j)) (λ j. cond (eqb j lost) true (helper-codes f q t w lost j)) (q * t) (λ j lj. go j lj (cases-eq j lost))
     where
       word : (j p : ℕ) → j < q * t → p < q ^ t → (j ≡ lost → ⊥) → (helps q lost p ≡ true) ⊎ (helps q lost p ≡ false)
           → cond (helps q lost p) (ltb (v j p) (f .size)) true ≡ cond (helps q lost p) (ltb (w j p) (f .size)) true
@@ -45,7 +45,7 @@ module _ {E : Type 0} (f : Arith E) (q t lost : ℕ) (v w : Words) (alike : Same
       go j lj (inl e) = cond-true (eqb j lost) true (helper-codes f q t v lost j) (eq-eqb j lost e) ∙ sym (cond-true (eqb j lost) true (helper-codes f q t w lost j) (eq-eqb j lost e))
       go j lj (inr ne) =
           ap (λ b. cond (eqb j lost) true b)
-          (every-alike (λ p. cond (helps q lost p) (ltb (v j p) (f .size)) true) (λ p. cond (helps q lost p) (ltb (w j p) (f .size)) true) (q ^ t) (λ p lp. word j p lj lp ne (cases-bool (helps q lost p))))
+          (every-same (λ p. cond (helps q lost p) (ltb (v j p) (f .size)) true) (λ p. cond (helps q lost p) (ltb (w j p) (f .size)) true) (q ^ t) (λ p lp. word j p lj lp ne (cases-bool (helps q lost p))))
 
 -- the tests of a repair
 module _ {E : Type 0} (f : Arith E) (q t : ℕ) (m : Model) (i space : ℕ) (size : wrong-size q t m ≡ false) (room : short q t space ≡ false) (li : i < q * t) (out : m .flags i ≡ false) where

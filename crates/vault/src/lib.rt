@@ -1,4 +1,5 @@
 // The vault: one message, coded over the nodes of one rack.
+pub mod altering;
 pub mod answer;
 pub mod coding;
 mod drawing;

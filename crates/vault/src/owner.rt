@@ -8,6 +8,7 @@ ghost use Rattle.shape.specs.Listing.{outages as list-of};
 ghost use Rattle.std.specs.Results.{Cases};
 ghost use Rattle.vault.specs.Calls.{wrong-size, out-nodes, Space, Drop as Dropped, Alter, Store, Repair, Recover, Read};
 ghost use Rattle.vault.specs.History.{RecoverPromise, RepairPromise, ReadPromise};
+use crate::altering;
 use crate::answer::Answer;
 use crate::coding;
 use crate::reading;
@@ -90,7 +91,7 @@ impl<F: Field + Drop, R: Rack> Vault<F, R> {
         ensures call { λ r. ⌜ Alter (F·Field .arith) (now (self .entry) .shape .q) (now (self .entry) .shape .t) (R·Rack .model (now (self .entry) .rack)) node place word r (R·Rack .model (now (self .exit) .rack)) ⌝ }
         ensures stays { λ r. ⌜ (now (self .exit) .shape ≡ now (self .entry) .shape) × R·Rack .kept (now (self .entry) .rack) (now (self .exit) .rack) ⌝ }
     {
-        small::alter::<F, R>(self.shape, &mut self.rack, node, place, word)
+        altering::alter::<F, R>(self.shape, &mut self.rack, node, place, word)
     }
 
     // Writes the codeword that carries the message, and raises every node.

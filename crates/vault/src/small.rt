@@ -1,15 +1,14 @@
-// The calls that change one flag or one word, and the one that only tells.
+// The call that makes a node out, and the one that only tells.
 ghost use mathlib.Core.Path.{_≡_};
 ghost use mathlib.Core.Bool.{true, false};
 ghost use Prim.Native.Nat.{_*_};
 ghost use Rattle.refusal.specs.declared.reason.Refusal.the-variants.{Size};
 ghost use Rattle.shape.specs.Listing.{outages as list-of};
 ghost use Rattle.std.specs.Results.{Cases};
-ghost use Rattle.vault.specs.Calls.{wrong-size, out-nodes, Drop, Alter};
+ghost use Rattle.vault.specs.Calls.{wrong-size, out-nodes, Drop};
 use crate::answer::Answer;
 use crate::sizes::fits;
 use crate::sizes::outages;
-use field::Field;
 use rack::Rack;
 use refusal::Refusal;
 use shape::OutageList;
@@ -36,34 +35,6 @@ pub fn drop_node<R: Rack>(shape: Shape, rack: &mut R, node: usize) -> Result<Ans
         return Err(Refusal::NodeOut);
     }
     rack.take_out(node)?;
-    Ok(Answer {
-        filled: 0,
-        drawn: 0,
-    })
-}
-
-// Puts one code into a standing node.
-pub fn alter<F: Field, R: Rack>(
-    shape: Shape,
-    rack: &mut R,
-    node: usize,
-    place: usize,
-    word: u16,
-) -> Result<Answer, Refusal>
-    ensures call { λ r. ⌜ Alter (F·Field .arith) (shape .q) (shape .t) (R·Rack .model (now (rack .entry))) node place word r (R·Rack .model (now (rack .exit))) ⌝ }
-    ensures stays { λ r. ⌜ R·Rack .kept (now (rack .entry)) (now (rack .exit)) ⌝ }
-{
-    fits(shape, rack)?;
-    if u32::from(word) >= F::codes() {
-        return Err(Refusal::NoCode);
-    }
-    if node >= shape.nodes() || place >= shape.places() {
-        return Err(Refusal::NoSuchPlace);
-    }
-    if !rack.stands(node) {
-        return Err(Refusal::NodeOut);
-    }
-    rack.put(node, place, word)?;
     Ok(Answer {
         filled: 0,
         drawn: 0,

@@ -73,14 +73,7 @@ module _ {E : Type 0} (f : Arith E) (q t count : ℕ) (nodes before after : List
       let P : Option Refusal → Type 0 = λ o. elim o [ Some x ↦ (e ≡ x) × (after ≡ before) | None ↦ NoneAgrees f q t (standing nodes) (laid (q ^ t) before) e × Rest (q * t * q ^ t) before after ] in
       subst P is r
 
--- the space after a refusal that changed nothing, and after one that drew
-pub space-same : (used : ℕ) (e : Refusal) (before after : List ℕ) → after ≡ before → Space used (Err e) before after
-space-same used e before after same = go (drew e)
-  where
-    go : (b : Bool) → cond b (drop used after ≡ drop used before) (after ≡ before)
-    go true = ap (drop used) same
-    go false = same
-
+-- the space after a refusal that drew
 pub space-drew : (used : ℕ) (e : Refusal) (before after : List ℕ) → drew e ≡ true → Rest used before after → Space used (Err e) before after
 space-drew used e before after yes′ rest =
     let P : Bool → Type 0 = λ b. cond b (drop used after ≡ drop used before) (after ≡ before) in

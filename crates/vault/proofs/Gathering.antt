@@ -73,10 +73,6 @@ module _ (P : ℕ) (test : ℕ → Bool) (words : Words) (before : List ℕ) (i 
   pub gathered-none : Gathered P (Upto 0) words before before
   gathered-none j r lr = sym (cond-false (Upto 0 j r) (words j r) (laid P before j r) (and-right (eqb j i) (ltb r 0 && test r) (and-left (ltb r 0) (test r) (ltb-none r))))
 
-  -- all places of the node
-  pub gathered-all : (ws : List ℕ) → Gathered P (Upto P) words before ws → Gathered P (λ j r. eqb j i && test r) words before ws
-  gathered-all ws = gathered-same P (Upto P) (λ j r. eqb j i && test r) words before ws (λ j r lr. ap (λ b. eqb j i && (b && test r)) (lt-ltb r P lr))
-
   module _ (ws : List ℕ) (p : ℕ) (gathered : Gathered P (Upto p) words before ws) where
     -- a place that is passed over
     pub gathered-skip : test p ≡ false → (ws′ : List ℕ) → ws′ ≡ ws → Gathered P (Upto (p + 1)) words before ws′
@@ -130,12 +126,6 @@ drawn-start m i test = drawn-none m i
 pub spot-room : (n P i p len : ℕ) → i < n → p < P → n * P ≤ len → i * P + p < len
 spot-room n P i p len li lp l = let b = place-below P n i p li lp in omega arith
 
--- no node yet
-pub drawn-below-none : (m : Model) (k : ℕ) → m ≡ drawn-below m 0 k
-drawn-below-none m k =
-    same-model m (drawn-below m 0 k) refl refl (λ i. refl) (λ i p. refl)
-    (λ i. sym (cond-false (ltb i 0 && m .flags i) (risen (m .meters i) k) (m .meters i) (and-left (ltb i 0) (m .flags i) (ltb-none i))))
-
 module _ (m0 m : Model) (n k : ℕ) (so-far : m ≡ drawn-below m0 n k) where
   -- a node that is out
   pub drawn-below-skip : m0 .flags n ≡ false → m ≡ drawn-below m0 (n + 1) k
@@ -174,10 +164,6 @@ module _ (m0 m : Model) (n k : ℕ) (so-far : m ≡ drawn-below m0 n k) where
 module _ (P : ℕ) (flags : ℕ → Bool) (test : ℕ → Bool) (words : Words) (before : List ℕ) where
   abbrev Below : ℕ → ℕ → ℕ → Bool
   Below n j p = (ltb j n && flags j) && test p
-
-  pub nodes-none : Gathered P (Below 0) words before before
-  nodes-none j p lp =
-      sym (cond-false (Below 0 j p) (words j p) (laid P before j p) (and-left (ltb j 0 && flags j) (test p) (and-left (ltb j 0) (flags j) (ltb-none j))))
 
   module _ (n : ℕ) (ws : List ℕ) (gathered : Gathered P (Below n) words before ws) where
     pub nodes-skip : flags n ≡ false → (ws′ : List ℕ) → ws′ ≡ ws → Gathered P (Below (n + 1)) words before ws′

@@ -4,7 +4,7 @@ use native.Mathlib.Omega.{arith}
 use lib.ListN.{length}
 use Rattle.shape.proofs.Bounds.{shaped, words-bound}
 use Rattle.vault.specs.Steps.{takes}
-use Rattle.vault.proofs.Gathering.{drawn-start, gathered-none, gathered-all, gathered-skip, gathered-more, drawn-skip, drawn-step, got-word, spot-room}
+use Rattle.vault.proofs.Gathering.{drawn-start, gathered-none, gathered-skip, gathered-more, drawn-skip, drawn-step, got-word, spot-room}
 use Rattle.vault.proofs.drawing.draw_node.Needs as need
 use Rattle.vault.proofs.drawing.draw_node.Needs.{then-selected·in-Continue-word, else-selected}
 

@@ -1,14 +1,13 @@
 -- From the words in the work space to the words of the rack. Assumes nothing.
-use mathlib.Core.Path.{_≡_, refl, sym, ap, ap₂, subst, _∙_}
+use mathlib.Core.Path.{_≡_, sym, ap, subst, _∙_}
 use mathlib.Core.Logic.{_⊎_, inl, inr}
-use mathlib.Core.Bool.{Bool, true, false, cond, not, _&&_}
+use mathlib.Core.Bool.{Bool, true, false, cond, _&&_}
 use mathlib.Core.List.{List}
-use Prim.Native.Nat.{ℕ, zero, suc, _+_, _-_, _*_, _/_, _%_, _^_, _<_, _≤_}
+use Prim.Native.Nat.{ℕ, _+_, _-_, _*_, _/_, _%_, _^_, _<_, _≤_}
 use native.Mathlib.Nat.{div-add-mod', mod-lt, le-div-iff-mul-le}
-use native.Mathlib.Omega.{arith}
 use lib.Dec.{ltb}
 use lib.ListN.{length, getD, drop}
-use Rattle.std.proofs.shelf.Tests.{cases-bool, lt-ltb, le-ltb, cond-true, cond-false, and-left, true≢false}
+use Rattle.std.proofs.shelf.Tests.{cases-bool, le-ltb, cond-true, cond-false, and-left}
 use Rattle.field.specs.Field.{Arith}
 use Rattle.shape.specs.Outages.{every}
 use Rattle.code.specs.Code.{Words, laid, Agrees, OnlyAgrees}
@@ -16,10 +15,9 @@ use Rattle.code.specs.Calls.{NoneAgrees, Restored, restore-refusal, good-standi
 use Rattle.code.proofs.Codes.{every-same}
 use Rattle.code.proofs.Solutions.{rest-kept}
 use Rattle.refusal.specs.declared.reason.Refusal.{Refusal}
-use Rattle.refusal.specs.declared.reason.Refusal.the-variants.{BadWord, NoCodeword}
 use Rattle.std.specs.declared.option.Option.{Option}
 use Rattle.std.specs.declared.option.Option.the-variants.{Some, None}
-use Rattle.std.specs.declared.result.Result.the-variants.{Ok, Err}
+use Rattle.std.specs.declared.result.Result.the-variants.{Err}
 use Rattle.vault.specs.Calls.{drew, Space}
 use Rattle.vault.specs.Steps.{Gathered}
 

@@ -6,7 +6,7 @@ use Rattle.field.specs.Field.{Arith, Laws}
 use Rattle.shape.specs.Layout.{digit, row, column}
 use Rattle.shape.specs.Outages.{count}
 use Rattle.shape.proofs.Bounds.{Shaped, rows-positive}
-use Rattle.std.proofs.shelf.Tests.{eqb-true, eq-eqb}
+use Rattle.std.proofs.shelf.Tests.{eq-eqb}
 use Rattle.code.specs.Code.{Words, Codeword, Refills, elements, helps}
 use Rattle.code.specs.Theorems.{Only-one, Repair-one}
 use Rattle.code.proofs.Main.{only-one-stands, repair-one-stands}

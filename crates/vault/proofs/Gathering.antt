@@ -3,21 +3,21 @@ use mathlib.Core.Path.{_≡_, refl, sym, ap, ap₂, subst, _∙_}
 use mathlib.Core.Logic.{_⊎_, inl, inr}
 use mathlib.Core.Bool.{Bool, true, false, cond, _&&_}
 use mathlib.Core.List.{List}
-use Prim.Native.Nat.{ℕ, zero, suc, _+_, _*_, _%_, _^_, _<_, _≤_}
+use Prim.Native.Nat.{ℕ, _+_, _*_, _%_, _^_, _<_, _≤_}
 use native.Mathlib.Numerals.{add-one}
 use native.Mathlib.Omega.{arith}
 use lib.Dec.{eqb, ltb}
 use lib.ListN.{length, getD, set}
 use Rattle.std.proofs.shelf.Lists.{getD-set-same, getD-set-other}
-use Rattle.std.proofs.shelf.Tests.{cases-eq, cases-bool, cases-lt, eq-eqb, ne-eqb, eqb-true, lt-ltb, le-ltb, ltb-true, cond-true, cond-false, and-left, and-right}
+use Rattle.std.proofs.shelf.Tests.{cases-eq, cases-bool, cases-lt, eq-eqb, ne-eqb, lt-ltb, le-ltb, cond-true, cond-false, and-left, and-right}
 use Rattle.code.specs.Code.{Words, laid}
 use Rattle.shape.specs.Outages.{count}
 use Rattle.shape.proofs.Counts.{count-more}
-use Rattle.rack.specs.Model.{Model, changed, risen, with-draw, with-flag, with-word, standing, got, after-get}
-use Rattle.rack.proofs.Models.{same-model, changed-same, changed-other, changed-twice, changed-to-same, is-changed, place-row, place-column, both, place-below, got-was-ok, after-get-ok}
+use Rattle.rack.specs.Model.{Model, changed, risen, with-draw, standing, got, after-get}
+use Rattle.rack.proofs.Models.{same-model, changed-same, changed-other, changed-twice, changed-to-same, place-row, place-column, both, place-below, got-was-ok, after-get-ok}
 use Rattle.std.specs.declared.result.Result.the-variants.{Ok}
 use Rattle.vault.proofs.Listing.{standing-flag}
-use Rattle.vault.specs.Steps.{drawn, drawn-below, Gathered, with-words, written, written-below}
+use Rattle.vault.specs.Steps.{drawn, drawn-below, Gathered, written}
 
 -- one word set, by node and place
 pub laid-set : (P : ℕ) (ws : List ℕ) (i p v j r : ℕ) → p < P → r < P → i * P + p < length ws

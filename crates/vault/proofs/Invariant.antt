@@ -1,27 +1,26 @@
 -- What every list of calls keeps. Assumes nothing.
-use mathlib.Core.Path.{_≡_, refl, sym, ap, subst, _∙_}
+use mathlib.Core.Path.{_≡_, sym, ap, subst, _∙_}
 use mathlib.Core.Logic.{_⊎_, inl, inr}
 use mathlib.Core.Bool.{Bool, true, false, cond, not}
-use mathlib.Core.List.{List, [], _∷_}
+use mathlib.Core.List.{List}
 use Prim.Native.Nat.{ℕ, _+_, _-_, _*_, _^_, _<_, _≤_}
 use lib.ListN.{getD}
 use native.Mathlib.Omega.{arith}
 use lib.Dec.{eqb, ltb}
-use Rattle.std.proofs.shelf.Tests.{cases-eq, cases-bool, not-false, ltb-true, ltb-false, true≢false}
+use Rattle.std.proofs.shelf.Tests.{cases-eq, not-false, ltb-true, ltb-false, true≢false}
 use Rattle.field.specs.Field.{Arith}
-use Rattle.code.specs.Code.{Words, Codeword, Agrees, OnlyAgrees, Encodes, Refills, OnlyRefill, with-node, helps}
+use Rattle.code.specs.Code.{Words, Codeword, Encodes, Refills, OnlyRefill, with-node, helps}
 use Rattle.vault.proofs.Codewords.{Only-help}
-use Rattle.rack.specs.Model.{Model, changed, with-flag, with-word, within, node-within}
+use Rattle.rack.specs.Model.{Model, changed, with-word, node-within}
 use Rattle.rack.proofs.Models.{changed-same, changed-other}
-use Rattle.refusal.specs.First.{first}
 use Rattle.refusal.specs.declared.reason.Refusal.{Refusal}
-use Rattle.refusal.specs.declared.reason.Refusal.the-variants.{Size, WorkSpace, NoCode, NoSuchPlace, NodeOut, NodeStands, AnotherOut}
+use Rattle.refusal.specs.declared.reason.Refusal.the-variants.{Size, WorkSpace, NoCode, NoSuchPlace, NodeStands, AnotherOut}
 use Rattle.std.specs.declared.option.Option.{Option}
 use Rattle.std.specs.declared.option.Option.the-variants.{Some, None}
 use Rattle.std.specs.declared.result.Result.{Result}
 use Rattle.std.specs.declared.result.Result.the-variants.{Ok, Err}
 use Rattle.vault.specs.declared.answer.Answer.{Answer}
-use Rattle.vault.specs.Calls.{wrong-size, short, out-count, Now, Drop, Alter, Store, Repair, Recover, Read, alter-refusal, repair-refusal, recover-refusal, NotRepaired, NotRecovered, repair-meters, recover-meters}
+use Rattle.vault.specs.Calls.{wrong-size, short, out-count, Now, Drop, Alter, Store, Repair, Recover, Read, repair-refusal, recover-refusal, NotRepaired, NotRecovered, repair-meters, recover-meters}
 use Rattle.vault.specs.History.{Call, store, drop, alter, repair, recover, read, Event, Meets, Led, opened, then, message-after, altered-after, last-message, altered}
 use Rattle.vault.proofs.Refusing.{first-none, right-size}
 use Rattle.vault.proofs.Tallies.{others-stand}

@@ -1,5 +1,5 @@
 -- What recover, repair and read promise after every list of calls. Assumes nothing.
-use mathlib.Core.Path.{_≡_, refl, sym, ap, ap₂, subst, _∙_}
+use mathlib.Core.Path.{_≡_, refl, sym, ap, subst, _∙_}
 use mathlib.Core.Logic.{_⊎_, inl, inr}
 use mathlib.Core.Bool.{Bool, true, false, cond, not, _||_}
 use mathlib.Core.List.{List}
@@ -8,25 +8,24 @@ use native.Mathlib.Nat.{div-add-mod', mod-lt}
 use native.Mathlib.Omega.{arith}
 use lib.Dec.{eqb, ltb}
 use lib.ListN.{length, getD}
-use Rattle.std.proofs.shelf.Tests.{cases-eq, cases-bool, not-false, not-true, ltb-false, le-ltb, lt-ltb, eqb-true, eq-eqb, cond-true, cond-false, ne-eqb, true≢false}
+use Rattle.std.proofs.shelf.Tests.{cases-bool, not-false, ltb-false, lt-ltb, eqb-true, eq-eqb, cond-true, cond-false, ne-eqb, true≢false}
 use Rattle.field.specs.Field.{Arith}
-use Rattle.shape.specs.Outages.{count, every}
+use Rattle.shape.specs.Outages.{every}
 use Rattle.shape.proofs.Counts.{count-none}
 use Rattle.shape.proofs.Every.{every-at, every-from}
-use Rattle.code.specs.Code.{Words, Codeword, Agrees, Encodes, helps}
+use Rattle.code.specs.Code.{Words, Codeword, Agrees, helps}
 use Rattle.code.specs.Calls.{good-help, good-standing}
 use Rattle.vault.proofs.Codewords.{Only-codeword, Only-help}
-use Rattle.rack.specs.Model.{Model, changed, risen, node-within}
+use Rattle.rack.specs.Model.{Model, risen}
 use Rattle.rack.proofs.Models.{changed-same}
 use Rattle.refusal.specs.declared.reason.Refusal.{Refusal}
-use Rattle.refusal.specs.declared.reason.Refusal.the-variants.{Size, WorkSpace, NoSuchPlace, NodeOut, NodeStands, AnotherOut, TooManyOut}
-use Rattle.std.specs.declared.option.Option.{Option}
-use Rattle.std.specs.declared.option.Option.the-variants.{Some, None}
+use Rattle.refusal.specs.declared.reason.Refusal.the-variants.{Size, NoSuchPlace, NodeOut}
+use Rattle.std.specs.declared.option.Option.the-variants.{None}
 use Rattle.std.specs.declared.result.Result.{Result}
 use Rattle.std.specs.declared.result.Result.the-variants.{Ok, Err}
 use Rattle.vault.specs.declared.answer.Answer.{Answer}
-use Rattle.vault.specs.Calls.{wrong-size, short, out-count, Now, Repair, Recover, Read, repair-refusal, recover-refusal, repair-meters, NotRepaired, NotRecovered, Unrecovered}
-use Rattle.vault.specs.History.{Event, After, altered, last-message, differs, differ-count, RecoverPromise, RecoverHolds, RepairPromise, RepairHolds, ReadPromise}
+use Rattle.vault.specs.Calls.{wrong-size, out-count, Repair, Recover, Read, NotRepaired, NotRecovered, Unrecovered}
+use Rattle.vault.specs.History.{altered, last-message, differs, differ-count, RecoverPromise, RepairPromise, ReadPromise}
 use Rattle.vault.proofs.Fetching.{data-node, among-all}
 use Rattle.vault.proofs.Recovering.{recover-none}
 use Rattle.vault.proofs.Refusing.{first-none, sized}

@@ -3,7 +3,7 @@ use mathlib.Core.Path.{_≡_, refl, sym, ap, ap₂, subst, _∙_}
 use mathlib.Core.Logic.{_⊎_, inl, inr}
 use mathlib.Core.Bool.{Bool, true, false, cond, not, _&&_}
 use mathlib.Core.List.{List}
-use Prim.Native.Nat.{ℕ, _+_, _-_, _*_, _^_, _<_, _≤_}
+use Prim.Native.Nat.{ℕ, _-_, _*_, _^_, _<_, _≤_}
 use native.Mathlib.Omega.{arith}
 use lib.Dec.{ltb}
 use lib.ListN.{length}
@@ -22,7 +22,7 @@ use Rattle.std.specs.declared.option.Option.the-variants.{Some, None}
 use Rattle.vault.specs.declared.selection.Selection.the-variants.{All}
 use Rattle.vault.specs.Calls.{wrong-size, short, out-count, Now, recover-refusal, recover-meters, Unrecovered, drew}
 use Rattle.vault.specs.Steps.{takes, drawn-below, written-below, Gathered}
-use Rattle.vault.proofs.Carrying.{agrees-too, only-too, good-too, agrees-back}
+use Rattle.vault.proofs.Carrying.{only-too, good-too, agrees-back}
 use Rattle.vault.proofs.Listing.{standing-flag}
 use Rattle.vault.proofs.Refusing.{right-size, sized, first-pass, first-here}
 

@@ -1,6 +1,6 @@
 -- What a repair leaves, from what its steps leave. Assumes nothing.
-use mathlib.Core.Path.{_≡_, refl, sym, ap, ap₂, subst, _∙_}
-use mathlib.Core.Logic.{_⊎_, inl, inr, _≢_}
+use mathlib.Core.Path.{_≡_, refl, sym, ap, ap₂, _∙_}
+use mathlib.Core.Logic.{_⊎_, inl, inr}
 use mathlib.Core.Bool.{Bool, true, false, cond, not, _&&_}
 use mathlib.Core.List.{List}
 use Prim.Native.Nat.{ℕ, _+_, _-_, _*_, _^_, _<_, _≤_}
@@ -10,7 +10,7 @@ use lib.Dec.{eqb, ltb}
 use lib.ListN.{length, getD}
 use Rattle.std.proofs.shelf.Tests.{cases-eq, cases-bool, eq-eqb, ne-eqb, lt-ltb, le-ltb, not-false, cond-true, cond-false}
 use Rattle.field.specs.Field.{Arith}
-use Rattle.shape.specs.Outages.{every, count}
+use Rattle.shape.specs.Outages.{count}
 use Rattle.shape.proofs.Bounds.{Shaped, rows-positive}
 use Rattle.shape.proofs.Counts.{count-same}
 use Rattle.shape.proofs.Digits.{row-bound, column-bound}

@@ -1,16 +1,16 @@
 -- Words written from the space into the rack. Assumes nothing.
-use mathlib.Core.Path.{_≡_, refl, sym, ap, ap₂, subst, _∙_}
+use mathlib.Core.Path.{_≡_, refl, sym, ap, ap₂, _∙_}
 use mathlib.Core.Logic.{_⊎_, inl, inr}
 use mathlib.Core.Bool.{Bool, true, false, cond, _&&_}
 use Prim.Native.Nat.{ℕ, _+_, _<_}
 use native.Mathlib.Omega.{arith}
-use lib.Dec.{eqb, ltb}
-use Rattle.std.proofs.shelf.Tests.{cases-eq, cases-bool, eq-eqb, ne-eqb, lt-ltb, le-ltb, cond-true, cond-false, and-left, and-right}
+use lib.Dec.{ltb}
+use Rattle.std.proofs.shelf.Tests.{cases-eq, le-ltb, cond-true, cond-false, and-left, and-right}
 use Rattle.code.specs.Code.{Words}
-use Rattle.rack.specs.Model.{Model, changed, with-flag, with-word, after-put, after-flag, within, done}
-use Rattle.rack.proofs.Models.{same-model, changed-same, changed-other, changed-twice, changed-to-same, is-changed, both, after-put-ok, after-flag-ok, done-was-ok}
+use Rattle.rack.specs.Model.{Model, changed, with-word, after-put}
+use Rattle.rack.proofs.Models.{same-model, changed-same, changed-other, changed-twice, both, after-put-ok}
 use Rattle.vault.specs.Steps.{with-words, written, written-below}
-use Rattle.vault.proofs.Gathering.{ltb-more, ltb-last, ltb-none}
+use Rattle.vault.proofs.Gathering.{ltb-more, ltb-last}
 
 -- a node replaced by rows that are alike
 changed-alike : (W : Words) (i : ℕ) (X Y : ℕ → ℕ) → ((r : ℕ) → X r ≡ Y r) → (k r : ℕ) → changed W i X k r ≡ changed W i Y k r

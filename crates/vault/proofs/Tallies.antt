@@ -1,10 +1,10 @@
 -- Counts of tests. Assumes nothing.
-use mathlib.Core.Path.{_≡_, refl, sym, ap, _∙_}
+use mathlib.Core.Path.{_≡_, sym, ap, _∙_}
 use mathlib.Core.Logic.{_⊎_, inl, inr}
 use mathlib.Core.Bool.{Bool, true, false, cond, not, _||_}
 use Prim.Native.Nat.{ℕ, zero, suc, _+_, _*_, _≤_, _<_}
 use native.Mathlib.Omega.{arith}
-use Rattle.std.proofs.shelf.Tests.{cases-eq, cases-bool, cond-true, cond-false}
+use Rattle.std.proofs.shelf.Tests.{cases-eq, cases-bool, cond-true}
 use Rattle.shape.specs.Outages.{count}
 use Rattle.rack.specs.Model.{Model}
 use Rattle.vault.specs.Calls.{out-count}

@@ -56,10 +56,6 @@ module _ (q t : ℕ) where
     pub has-words : (i p : ℕ) → i < q * t → p < q ^ t → m′ .words i p ≡ words i p
     pub has-meters : (i : ℕ) → i < q * t → m′ .meters i ≡ meters i
 
-  -- ---- open and tell: refused only where the counts are wrong
-  abbrev pub open-refusal : Model → Option Refusal
-  open-refusal m = first (wrong-size m) Size None
-
   -- ---- drop
   abbrev pub drop-refusal : Model → ℕ → Option Refusal
   drop-refusal m i = first (wrong-size m) Size (first (not (node-within m i)) NoSuchPlace (first (not (m .flags i)) NodeOut None))

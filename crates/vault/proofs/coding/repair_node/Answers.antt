@@ -1,11 +1,11 @@
 use mathlib.Core.Path.{_≡_, refl, sym, ap, ap₂, subst, _∙_}
-use mathlib.Core.Bool.{true, false}
+use mathlib.Core.Bool.{false}
 use Prim.Native.Nat.{_-_, _*_, _^_, _<_, _≤_}
 use native.Mathlib.Nat.{mul-le-mul}
 use native.Mathlib.Omega.{arith}
 use lib.ListN.{length, drop}
 use Rattle.code.specs.Code.{laid}
-use Rattle.refusal.specs.declared.reason.Refusal.the-variants.{AnotherOut, BadWord}
+use Rattle.refusal.specs.declared.reason.Refusal.the-variants.{AnotherOut}
 use Rattle.shape.specs.Listing.{outages}
 use Rattle.shape.proofs.Bounds.{shaped, weight-bound, places-positive}
 use Rattle.std.proofs.shelf.Results.{err-from-errBy}

@@ -1,5 +1,5 @@
-use mathlib.Core.Path.{_≡_, ap, _∙_}
-use Prim.Native.Nat.{_*_, _^_}
+use mathlib.Core.Path.{ap, _∙_}
+use Prim.Native.Nat.{_^_}
 use Rattle.code.specs.Code.{laid}
 use Rattle.shape.specs.Listing.{outages}
 use Rattle.refusal.specs.declared.reason.Refusal.the-variants.{Size}

@@ -1,9 +1,8 @@
-use mathlib.Core.Path.{_≡_, refl, sym, _∙_}
+use mathlib.Core.Path.{refl, sym, _∙_}
 use Prim.Native.Nat.{_+_, _-_, _*_, _^_, _≤_}
 use native.Mathlib.Omega.{arith}
 use lib.ListN.{length}
 use Rattle.shape.proofs.Bounds.{shaped, places-positive}
-use Rattle.std.proofs.shelf.Tests.{not-false}
 use Rattle.vault.proofs.Fetching.{stand-flags, read-passes, read-finds-out, read-now}
 use Rattle.vault.proofs.reading.read_message.Needs as need
 

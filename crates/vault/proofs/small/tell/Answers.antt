@@ -1,6 +1,6 @@
-use mathlib.Core.Path.{_≡_, sym, ap, subst, _∙_}
+use mathlib.Core.Path.{sym, ap, subst, _∙_}
 use mathlib.Core.Bool.{not}
-use Prim.Native.Nat.{_*_, _<_}
+use Prim.Native.Nat.{_<_}
 use Rattle.vault.proofs.Listing.{listed-same, standing-flag}
 use Rattle.vault.proofs.Refusing.{right-size}
 use Rattle.vault.proofs.small.tell.Needs as need

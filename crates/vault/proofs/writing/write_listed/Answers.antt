@@ -1,5 +1,5 @@
-use mathlib.Core.Path.{_≡_, sym, ap, subst, _∙_}
-use Prim.Native.Nat.{ℕ, _^_}
+use mathlib.Core.Path.{sym, ap, subst, _∙_}
+use Prim.Native.Nat.{_^_}
 use Rattle.code.specs.Code.{laid}
 use Rattle.shape.specs.Listing.{outages}
 use Rattle.shape.specs.Outages.{among}

@@ -1,4 +1,5 @@
 // Tests of fields, shapes and the code, by running them.
+#![tactic(auto)]
 #[cfg(test)]
 mod arrays;
 #[cfg(test)]

@@ -1,4 +1,5 @@
 // The console: a line in, the bytes printed out.
+#![tactic(auto)]
 mod calls;
 mod input;
 mod session;

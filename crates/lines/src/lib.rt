@@ -1,4 +1,6 @@
 // The lines of the console: what a line asks for, and what is printed as its answer.
+#![tactic(auto)]
+
 pub mod command;
 mod items;
 mod numbers;

@@ -10,7 +10,8 @@ use std::alloc::{AllocError, Global};
 fn write_number(text: &mut String, n: usize) -> Result<(), AllocError>
     ensures { OnOk result (string_bytes text.new ≡ string_bytes text.old ++ spaced (n ∷ [])) }
 {
-    let number = format!(in text.allocator(); " {n}")?;
+    let heap = *text.allocator();
+    let number = format!(in heap; " {n}")?;
     text.push_str(number.as_str())
 }
 
@@ -57,7 +58,7 @@ pub fn print_bad(out: &mut String) -> Result<(), AllocError>
 pub fn print_no(out: &mut String, why: Refusal) -> Result<(), AllocError>
     ensures { string_bytes out.new ≡ printed (is_ok result) (string_bytes out.old) (no_line (number_of why)) }
 {
-    let text = no_text(out.allocator(), why.number())?;
+    let text = no_text(*out.allocator(), why.number())?;
     out.push_str(text.as_str())
 }
 
@@ -70,6 +71,6 @@ pub fn print_ok(
 ) -> Result<(), AllocError>
     ensures { string_bytes out.new ≡ printed (is_ok result) (string_bytes out.old) (ok_line filled drawn words.now) }
 {
-    let text = ok_text(out.allocator(), filled, drawn, words)?;
+    let text = ok_text(*out.allocator(), filled, drawn, words)?;
     out.push_str(text.as_str())
 }

@@ -1,4 +1,5 @@
 // Racks of nodes behind one trait, a rack in memory of its own, and work on whole nodes of any rack.
+#![tactic(auto)]
 pub mod counts;
 pub mod node;
 pub mod table;

@@ -1,4 +1,5 @@
 // A rack on lent bytes: the check of an image, the rack over it, and work on whole nodes of lent images.
+#![tactic(auto)]
 pub mod checks;
 pub mod image;
 pub mod lent_images;

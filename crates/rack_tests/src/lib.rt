@@ -1,4 +1,5 @@
 // Tests of racks, by running them.
+#![tactic(auto)]
 #[cfg(test)]
 mod images;
 #[cfg(test)]

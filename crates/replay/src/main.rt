@@ -1,4 +1,5 @@
 // Replays recorded streams: for each, how many of its answers agree with those that were recorded.
+#![tactic(auto)]
 use console::transcript;
 use std::fs;
 

@@ -1,4 +1,6 @@
 // The shape of a code: its nodes and places, and lists of nodes that are out.
+#![tactic(auto)]
+
 pub mod dimensions;
 mod layout;
 mod lengths;

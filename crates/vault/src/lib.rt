@@ -1,4 +1,5 @@
 // The vault: one message, coded over the nodes of one rack.
+#![tactic(auto)]
 mod methods;
 pub mod owner;
 

@@ -13,13 +13,13 @@ retold : (b : Bool) {P Q : Type 0} → (P → Q) → (Q → P) → Tells b P →
 retold true there back h = there h
 retold false there back h = λ y. h (back y)
 
-pub returns-then-not-all-codes : goal.returns-then-not-all-codes
-returns-then-not-all-codes g c =
+pub returns-then-not-all_codes : goal.returns-then-not-all_codes
+returns-then-not-all_codes g c =
     let f = g.F.Field.arith in
     let s = c.args.shape in
     let ws = c.args.words.now in
     let used = s.q * s.t * s.q ^ s.t in
-    let e : first_codes f ws used ≡ false = sym (front_codes f ws used _ (omega arith) (omega arith)) ∙ sym c.if-not-all-codes.ensures in
+    let e : first_codes f ws used ≡ false = sym (front_codes f ws used _ (omega arith) (omega arith)) ∙ sym c.if-not-all_codes.ensures in
     (le-ltb (length ws) used (omega arith), λ w. both_ways (first_codes f ws used) e (codes_from f ws used (laid_codes f (shaped s) ws w.codes)))
 
 pub returns : goal.returns
@@ -29,8 +29,8 @@ returns g c =
     let s = c.args.shape in
     let ws = c.args.words.now in
     let used = s.q * s.t * s.q ^ s.t in
-    let e : first_codes f ws used ≡ true = sym (front_codes f ws used _ (omega arith) (omega arith)) ∙ sym c.if-not-all-codes.ensures in (
+    let e : first_codes f ws used ≡ true = sym (front_codes f ws used _ (omega arith) (omega arith)) ∙ sym c.if-not-all_codes.ensures in (
       le-ltb (length ws) used (omega arith),
-      retold c.planes-hold.result {P = Checks f s.q s.t s.q (symbols f (s.q ^ s.t) ws)} {Q = Codeword f s.q s.t (laid (s.q ^ s.t) ws)}
-          (codeword f (shaped s) laws ws (codes_at f ws used e)) (codeword_checks f (shaped s) laws ws) c.planes-hold.ensures,
+      retold c.planes_hold.result {P = Checks f s.q s.t s.q (symbols f (s.q ^ s.t) ws)} {Q = Codeword f s.q s.t (laid (s.q ^ s.t) ws)}
+          (codeword f (shaped s) laws ws (codes_at f ws used e)) (codeword_checks f (shaped s) laws ws) c.planes_hold.ensures,
     )

@@ -16,7 +16,7 @@ returns-then-code-ne0 g c all =
     let A = symbols f (s.q ^ s.t) c.args.words.now in
     let e = c.loop-e.e in
     let is = check_all f (shaped s) laws (outages c.none-none.result) c.none-none.ensures.list A c.args.place e in
-    c.if-code-ne0.true (c.code.ensures ∙ ap f.code (c.known-sum.ensures ∙ is ∙ all e (omega arith)) ∙ laws.zero_code)
+    c.if-code-ne0.true (c.code.ensures ∙ ap f.code (c.known_sum.ensures ∙ is ∙ all e (omega arith)) ∙ laws.zero_code)
 
 pub loop-e-preserved : goal.loop-e-preserved
 loop-e-preserved g c =
@@ -27,4 +27,4 @@ loop-e-preserved g c =
     let e = c.loop-e.e in
     let is = check_all f (shaped s) laws (outages c.none-none.result) c.none-none.ensures.list A c.args.place e in
     below_next (λ d. check f s.q s.t A c.args.place d ≡ f.zero) e c.loop-e.invariant
-    (sym (c.known-sum.ensures ∙ is) ∙ zero_from f laws c.known-sum.result (sym c.code.ensures ∙ c.if-code-ne0.false))
+    (sym (c.known_sum.ensures ∙ is) ∙ zero_from f laws c.known_sum.result (sym c.code.ensures ∙ c.if-code-ne0.false))

@@ -9,4 +9,4 @@ loop-place-preserved g c p e lp le =
     let f = g.F.Field.arith in
     let s = c.args.shape in
     let A = symbols f (s.q ^ s.t) c.args.words.now in
-    below_next (λ r. check f s.q s.t A r e ≡ f.zero) c.loop-place.place (λ r lr. c.loop-place.invariant r e lr le) (c.if-not-plane-holds.ensures e le) p lp
+    below_next (λ r. check f s.q s.t A r e ≡ f.zero) c.loop-place.place (λ r lr. c.loop-place.invariant r e lr le) (c.if-not-plane_holds.ensures e le) p lp

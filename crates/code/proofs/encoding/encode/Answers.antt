@@ -11,8 +11,8 @@ use Rattle.code.proofs.Places.{message_within, parity_after}
 use Rattle.code.proofs.Main.{some_one_stands}
 use Rattle.code.proofs.encoding.encode.Goals as goal
 
-pub copy-message-requires : goal.copy-message-requires
-copy-message-requires g c = omega (arith, message_within (shaped c.args.shape))
+pub copy_message-requires : goal.copy_message-requires
+copy_message-requires g c = omega (arith, message_within (shaped c.args.shape))
 
 pub span-parity-requires : goal.span-parity-requires
 span-parity-requires g c = omega (arith, parity_after (shaped c.args.shape))
@@ -27,11 +27,11 @@ returns g c = record {
       let o = c.span-parity.result in
       let used = s.q * s.t * s.q ^ s.t in
       let size = s.q * (s.t - 1) * s.q ^ s.t in
-      let all : all_codes f m ≡ true = sym c.if-not-all-codes.ensures in
+      let all : all_codes f m ≡ true = sym c.if-not-all_codes.ensures in
       let n : o.count ≡ s.q * s.t = c.span-parity.ensures.count in
-      encoded f g.met.F.Field.lawful (shaped s) m ws c.copy-message.new.words (outages o)
-      (omega arith) (omega arith) (omega arith) (codes_at f m (length m) all) c.copy-message.ensures.copied c.copy-message.ensures.kept
-      (subst (λ first. Run first (outages o) s.q) c.data-nodes.ensures c.span-parity.ensures.nodes)
+      encoded f g.met.F.Field.lawful (shaped s) m ws c.copy_message.new.words (outages o)
+      (omega arith) (omega arith) (omega arith) (codes_at f m (length m) all) c.copy_message.ensures.copied c.copy_message.ensures.kept
+      (subst (λ first. Run first (outages o) s.q) c.data_nodes.ensures c.span-parity.ensures.nodes)
       (subst (λ k. rising k (outages o) ≡ true) n o.rises) o.count n
       (cond-false (not (eqb (length m) size)) _ _ (not_from_true (eqb (length m) size) (eq-eqb (length m) size (omega arith)))
       ∙ cond-false (ltb (length ws) used) _ _ (le-ltb (length ws) used (omega arith)) ∙ cond-false (not (all_codes f m)) _ _ (not_from_true (all_codes f m) all))
@@ -39,11 +39,11 @@ returns g c = record {
   some_one = some_one_stands g.F.Field.arith g.met.F.Field.lawful;
 }
 
-pub returns-then-message-message-words : goal.returns-then-message-message-words
-returns-then-message-message-words g c = record { encoded = search rules; some_one = some_one_stands g.F.Field.arith g.met.F.Field.lawful }
+pub returns-then-message-message_words : goal.returns-then-message-message_words
+returns-then-message-message_words g c = record { encoded = search rules; some_one = some_one_stands g.F.Field.arith g.met.F.Field.lawful }
 
 pub returns-then-words : goal.returns-then-words
 returns-then-words g c = record { encoded = search rules; some_one = some_one_stands g.F.Field.arith g.met.F.Field.lawful }
 
-pub returns-then-not-all-codes : goal.returns-then-not-all-codes
-returns-then-not-all-codes g c = record { encoded = search rules; some_one = some_one_stands g.F.Field.arith g.met.F.Field.lawful }
+pub returns-then-not-all_codes : goal.returns-then-not-all_codes
+returns-then-not-all_codes g c = record { encoded = search rules; some_one = some_one_stands g.F.Field.arith g.met.F.Field.lawful }

@@ -22,11 +22,11 @@ loop-e-preserved g c =
       length-set l e v ∙ inv.0,
       below_next (λ d. get_or (set l e v) d 0 ≡ f.code (lacks f q t S A c.args.place d)) e
           (λ d h. get_or-set_other l e d v 0 (omega arith) ∙ inv.1 d h)
-          (get_or-set_same l e v 0 (let h = o.held in omega (arith, inv.0, length-take o.len o.numbers)) ∙ c.code.ensures ∙ ap f.code (c.negative.ensures ∙ ap f.negative c.known-sum.ensures)),
+          (get_or-set_same l e v 0 (let h = o.held in omega (arith, inv.0, length-take o.len o.numbers)) ∙ c.code.ensures ∙ ap f.code (c.negative.ensures ∙ ap f.negative c.known_sum.ensures)),
     )
 
-pub offset-bounds-sides-e : goal.offset-bounds-sides-e
-offset-bounds-sides-e g c = let o = c.args.out.now in let h = o.held in omega (arith, length-take o.len o.numbers)
+pub offset_bounds-sides-e : goal.offset_bounds-sides-e
+offset_bounds-sides-e g c = let o = c.args.out.now in let h = o.held in omega (arith, length-take o.len o.numbers)
 
 pub bounds-sides-e : goal.bounds-sides-e
 bounds-sides-e g c = let o = c.args.out.now in let h = o.held in omega (arith, length-take o.len o.numbers)

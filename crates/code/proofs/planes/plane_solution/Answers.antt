@@ -9,8 +9,8 @@ use Rattle.code.proofs.PlaneSolution.{plane_solved}
 use Rattle.code.proofs.Words.{read_written}
 use Rattle.code.proofs.planes.plane_solution.Goals as goal
 
-pub solve-first-requires : goal.solve-first-requires
-solve-first-requires g c = let o = c.args.out.now in let h = o.held in let l = length-take o.len o.numbers in record { room = search rules; listed = search rules }
+pub solve_first-requires : goal.solve_first-requires
+solve_first-requires g c = let o = c.args.out.now in let h = o.held in let l = length-take o.len o.numbers in record { room = search rules; listed = search rules }
 
 pub returns : goal.returns
 returns g c =
@@ -21,6 +21,6 @@ returns g c =
     let h = o.held in
     let l = length-take o.len o.numbers in
     let rises : rising (s.q * s.t) (outages o) ≡ true = subst (λ n. rising n (outages o) ≡ true) c.requires.count o.rises in
-    plane_solved f laws (shaped s) (outages o) rises (symbols f (s.q ^ s.t) c.args.words.now) c.args.place c.plane-sides-sides.result c.solve-first.new.sides
-    (λ e le. ap (read f) (c.plane-sides-sides.ensures e (omega arith)) ∙ read_written f laws _)
-    (subst (λ m. Solves f (points f (outages o)) (reads f c.solve-first.new.sides) (reads f c.plane-sides-sides.result) m) c.len.ensures c.solve-first.ensures.solves)
+    plane_solved f laws (shaped s) (outages o) rises (symbols f (s.q ^ s.t) c.args.words.now) c.args.place c.plane_sides-sides.result c.solve_first.new.sides
+    (λ e le. ap (read f) (c.plane_sides-sides.ensures e (omega arith)) ∙ read_written f laws _)
+    (subst (λ m. Solves f (points f (outages o)) (reads f c.solve_first.new.sides) (reads f c.plane_sides-sides.result) m) c.len.ensures c.solve_first.ensures.solves)

@@ -20,16 +20,16 @@ pub loop-y-init : goal.loop-y-init
 unfolding count
 loop-y-init c = omega arith
 
-pub overflow-mul-y : goal.overflow-mul-y
-overflow-mul-y c =
+pub overflow_mul-y : goal.overflow_mul-y
+overflow_mul-y c =
     let s = c.args.shape in
     let e : c.loop-y.y * c.rows.result ≡ c.loop-y.y * s.q = cc in
     let w = column_within s.q s.t c.loop-y.y (omega arith) in
     let f = s.few in
     omega arith
 
-pub overflow-add-y : goal.overflow-add-y
-overflow-add-y c =
+pub overflow_add-y : goal.overflow_add-y
+overflow_add-y c =
     let s = c.args.shape in
     let e : c.loop-y.y * c.rows.result ≡ c.loop-y.y * s.q = cc in
     let w = column_within s.q s.t c.loop-y.y (omega arith) in
@@ -37,8 +37,8 @@ overflow-add-y c =
     let f = s.few in
     omega arith
 
-pub overflow-add-sum : goal.overflow-add-sum
-overflow-add-sum c = let l = count_bound (λ y. among (outages c.args.out.now) (node_at c.args.shape.q (digit c.args.shape.q c.args.place y) y)) c.loop-y.y in let i = c.loop-y.invariant in omega arith
+pub overflow_add-sum : goal.overflow_add-sum
+overflow_add-sum c = let l = count_bound (λ y. among (outages c.args.out.now) (node_at c.args.shape.q (digit c.args.shape.q c.args.place y) y)) c.loop-y.y in let i = c.loop-y.invariant in omega arith
 
 pub loop-y-preserved : goal.loop-y-preserved
 loop-y-preserved c =

@@ -10,8 +10,8 @@ use Rattle.code.proofs.Refilling.{planes_none, planes_skip, planes_more, planes_
 use Rattle.code.proofs.rebuilding.refill.Goals as goal
 use Rattle.code.proofs.rebuilding.refill.Goals.{then-digit-row, else-digit-row}
 
-pub overflow-mul-column : goal.overflow-mul-column
-overflow-mul-column g c =
+pub overflow_mul-column : goal.overflow_mul-column
+overflow_mul-column g c =
     let s = c.args.shape in
     let y = column s.q c.args.node in
     let w = column_within s.q s.t y (column_bound s.q (rows_positive (shaped s)) c.args.node s.t c.requires.node) in
@@ -34,8 +34,8 @@ loop-plane-init g c =
     let run = subst (λ first. Run first (outages c.span-column.result) s.q) e c.span-column.ensures.nodes in
     planes_none g.F.Field.arith g.met.F.Field.lawful (shaped s) c.args.node c.requires.node (outages c.span-column.result) run c.args.words.now
 
-pub refill-from-requires : goal.refill-from-requires
-refill-from-requires g c =
+pub refill_from-requires : goal.refill_from-requires
+refill_from-requires g c =
     let s = c.args.shape in
     let e : c.column.result * c.rows.result ≡ column s.q c.args.node * s.q = cc in
     let run = subst (λ first. Run first (outages c.span-column.result) s.q) e c.span-column.ensures.nodes in
@@ -64,7 +64,7 @@ loop-plane-preserved g c =
     let d : c.digit.result ≡ digit s.q p (column s.q i) = c.digit.ensures ∙ ap (digit s.q p) c.column-in-loop-plane.ensures in
     let G : List ℕ → Type 0 = λ us. RefilledWhere f s.q s.t (among nodes) i (λ r. companion_place s.q i r < p + 1) before us in
     elim c.if-digit-row.branch [
-      | then-digit-row w ↦ subst G (sym w.words-is) (planes_more f laws (shaped s) i c.requires.node nodes run p before now w.refill-from.new.words c.loop-plane.invariant w.refill-from.ensures)
+      | then-digit-row w ↦ subst G (sym w.words-is) (planes_more f laws (shaped s) i c.requires.node nodes run p before now w.refill_from.new.words c.loop-plane.invariant w.refill_from.ensures)
       | else-digit-row w ↦ subst G (sym w.words-is) (planes_skip f laws (shaped s) i c.requires.node nodes run p before now (λ h. w.if-digit-row.false (d ∙ h ∙ sym c.row.ensures)) c.loop-plane.invariant)
     ]
 

@@ -13,18 +13,18 @@ pub loop-k-init : goal.loop-k-init
 loop-k-init g c =
     row_none g.F.Field.arith g.met.F.Field.lawful (shaped c.args.shape) c.args.node c.requires.node (outages c.args.column.now) c.requires.nodes c.args.plane c.args.words.now
 
-pub companion-place-place-requires : goal.companion-place-place-requires
-companion-place-place-requires g c =
+pub companion_place-place-requires : goal.companion_place-place-requires
+companion_place-place-requires g c =
     let q = c.args.shape.q in
-    let i = c.listed-node-helper.result in
+    let i = c.listed_node-helper.result in
     record {
       node = helper_within g.F.Field.arith g.met.F.Field.lawful (shaped c.args.shape) c.args.node c.requires.node (outages c.args.column.now) c.requires.nodes
-          c.args.plane c.loop-k.k i (companion_place q i c.args.plane) c.requires.plane (omega arith) c.requires.helps c.listed-node-helper.ensures refl;
+          c.args.plane c.loop-k.k i (companion_place q i c.args.plane) c.requires.plane (omega arith) c.requires.helps c.listed_node-helper.ensures refl;
       place = c.requires.plane;
     }
 
-pub offset-bounds-solution-k : goal.offset-bounds-solution-k
-offset-bounds-solution-k g c = omega (arith, rows_bound (shaped c.args.shape))
+pub offset_bounds-solution-k : goal.offset_bounds-solution-k
+offset_bounds-solution-k g c = omega (arith, rows_bound (shaped c.args.shape))
 
 pub bounds-solution-k : goal.bounds-solution-k
 bounds-solution-k g c = omega (arith, rows_bound (shaped c.args.shape))
@@ -34,18 +34,18 @@ refilled-a-requires g c =
     let p = c.requires in
     record {
       helper = helper_within g.F.Field.arith g.met.F.Field.lawful (shaped c.args.shape) c.args.node c.requires.node (outages c.args.column.now) c.requires.nodes
-          c.args.plane c.loop-k.k c.listed-node-helper.result c.companion-place-place.result c.requires.plane (omega arith) c.requires.helps c.listed-node-helper.ensures c.companion-place-place.ensures;
+          c.args.plane c.loop-k.k c.listed_node-helper.result c.companion_place-place.result c.requires.plane (omega arith) c.requires.helps c.listed_node-helper.ensures c.companion_place-place.ensures;
       plane = c.requires.plane;
       room = omega arith;
     }
 
-pub write-symbol-requires : goal.write-symbol-requires
-write-symbol-requires g c =
+pub write_symbol-requires : goal.write_symbol-requires
+write_symbol-requires g c =
     let p = c.requires in
     record {
       node = c.requires.node;
       place = place_within g.F.Field.arith g.met.F.Field.lawful (shaped c.args.shape) c.args.node c.requires.node (outages c.args.column.now) c.requires.nodes
-          c.args.plane c.loop-k.k c.listed-node-helper.result c.companion-place-place.result c.requires.plane (omega arith) c.requires.helps c.listed-node-helper.ensures c.companion-place-place.ensures;
+          c.args.plane c.loop-k.k c.listed_node-helper.result c.companion_place-place.result c.requires.plane (omega arith) c.requires.helps c.listed_node-helper.ensures c.companion_place-place.ensures;
       room = omega arith;
     }
 
@@ -58,11 +58,11 @@ loop-k-preserved g c =
     let p = c.requires in
     let m = c.requires.nodes.0 in
     let l : k < length nodes = omega arith in
-    row_more f g.met.F.Field.lawful (shaped s) c.args.node c.requires.node nodes c.requires.nodes c.args.plane k c.listed-node-helper.result c.companion-place-place.result c.requires.plane (omega arith) c.requires.helps
-    c.listed-node-helper.ensures c.companion-place-place.ensures c.args.words.now c.loop-k.words c.write-symbol.new.words c.refilled-a.result c.element.result (omega arith) c.loop-k.invariant
-    (c.element.ensures ∙ c.plane-solution-solution.ensures k l
-    ∙ ap (λ i. solution f s.q s.t (among nodes) (symbols f (s.q ^ s.t) c.args.words.now) i c.args.plane) (sym c.listed-node-helper.ensures))
-    c.refilled-a.ensures c.write-symbol.ensures.same
+    row_more f g.met.F.Field.lawful (shaped s) c.args.node c.requires.node nodes c.requires.nodes c.args.plane k c.listed_node-helper.result c.companion_place-place.result c.requires.plane (omega arith) c.requires.helps
+    c.listed_node-helper.ensures c.companion_place-place.ensures c.args.words.now c.loop-k.words c.write_symbol.new.words c.refilled-a.result c.element.result (omega arith) c.loop-k.invariant
+    (c.element.ensures ∙ c.plane_solution-solution.ensures k l
+    ∙ ap (λ i. solution f s.q s.t (among nodes) (symbols f (s.q ^ s.t) c.args.words.now) i c.args.plane) (sym c.listed_node-helper.ensures))
+    c.refilled-a.ensures c.write_symbol.ensures.same
 
 pub returns : goal.returns
 returns g c =

@@ -13,5 +13,5 @@ unfolding given
 returns g c =
     let f = g.F.Field.arith in
     c.product.ensures
-    ∙ ap₂ f.product (c.inverse.ensures ∙ ap f.inverse c.coupling-element.ensures) (c.difference.ensures ∙ ap (minus f c.args.b) c.symbol-a.ensures)
+    ∙ ap₂ f.product (c.inverse.ensures ∙ ap f.inverse c.coupling_element.ensures) (c.difference.ensures ∙ ap (minus f c.args.b) c.symbol-a.ensures)
     ∙ sym (cond-false (eqb c.args.helper c.args.node) _ _ (ne_eqb c.args.helper c.args.node c.if-helper-node.false))

@@ -23,8 +23,8 @@ loop-node-preserved c =
     let G : List ℕ → Type 0 = λ us. Cleared P S (i + 1) (laid P before) (laid P us) × Rest (s.q * s.t * P) before us in
     elim c.if-contains.branch [
       | then-contains w ↦ subst G (sym w.words-is) (
-        clear_more P S i (laid P before) (laid P now) (laid P w.clear-node.new.words) (sym c.contains.ensures ∙ w.if-contains.true) inv.0 w.clear-node.ensures.cleared,
-        w.clear-node.ensures.rest ∙ inv.1,
+        clear_more P S i (laid P before) (laid P now) (laid P w.clear_node.new.words) (sym c.contains.ensures ∙ w.if-contains.true) inv.0 w.clear_node.ensures.cleared,
+        w.clear_node.ensures.rest ∙ inv.1,
       )
       | else-contains w ↦ subst G (sym w.words-is) (clear_skip P S i (laid P before) (laid P now) (sym c.contains.ensures ∙ w.if-contains.false) inv.0, inv.1)
     ]

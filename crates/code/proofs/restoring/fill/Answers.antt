@@ -22,13 +22,13 @@ loop-level-preserved g c =
     let used = s.q * s.t * s.q ^ s.t in
     let before = c.args.words.now in
     let now = c.loop-level.words in
-    let solved = c.solve-score.new.words in
-    let turned = c.turn-score.new.words in
+    let solved = c.solve_score.new.words in
+    let turned = c.turn_score.new.words in
     let inv = c.loop-level.invariant in
     let rises : rising (s.q * s.t) (outages o) ≡ true = subst (λ n. rising n (outages o) ≡ true) c.requires.count o.rises in
     let n = rising_count (s.q * s.t) (outages o) rises in (
-      filled_more f laws (shaped s) S (length (outages o)) c.loop-level.level (A now) (A solved) (A turned) c.solve-score.ensures.solved c.turn-score.ensures.turned (A before) (omega arith) inv.0,
-      sound_both f used before solved turned (sound_both f used before now solved inv.1 c.solve-score.ensures.sound) c.turn-score.ensures.sound,
+      filled_more f laws (shaped s) S (length (outages o)) c.loop-level.level (A now) (A solved) (A turned) c.solve_score.ensures.solved c.turn_score.ensures.turned (A before) (omega arith) inv.0,
+      sound_both f used before solved turned (sound_both f used before now solved inv.1 c.solve_score.ensures.sound) c.turn_score.ensures.sound,
     )
 
 pub returns : goal.returns

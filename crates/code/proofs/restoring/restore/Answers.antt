@@ -47,8 +47,8 @@ returns-then-len-rows g c = record {
   only_one = only_one_stands g.F.Field.arith g.met.F.Field.lawful;
 }
 
-pub returns-then-not-all-codes : goal.returns-then-not-all-codes
-returns-then-not-all-codes g c = record {
+pub returns-then-not-all_codes : goal.returns-then-not-all_codes
+returns-then-not-all_codes g c = record {
   restored =
       (let f = g.F.Field.arith in
       let laws = g.met.F.Field.lawful in
@@ -58,7 +58,7 @@ returns-then-not-all-codes g c = record {
       let cs = c.clear.new.words in
       let used = s.q * s.t * s.q ^ s.t in
       let n : o.count ≡ s.q * s.t = sym c.nodes.ensures ∙ c.if-nodes.false ∙ c.nodes-2.ensures in
-      let bad : first_codes f cs used ≡ false = sym (front_codes f cs used _ (omega arith) (omega arith)) ∙ sym c.if-not-all-codes.ensures in
+      let bad : first_codes f cs used ≡ false = sym (front_codes f cs used _ (omega arith) (omega arith)) ∙ sym c.if-not-all_codes.ensures in
       let good = good_standing f s.q s.t (standing (outages o)) (laid (s.q ^ s.t) ws) in
       refused_bad f s.q s.t (outages o) ws cs o.count (refusal_none f s.q s.t o.count (outages o) ws (omega arith) n (omega arith))
       (⊎_elim (λ e. absurd (both_ways (first_codes f cs used) bad (codes_from f cs used (good_codes f laws (shaped s) (outages o) ws cs c.clear.ensures.cleared e)))) (λ e. e) (cases_Bool good))
@@ -66,8 +66,8 @@ returns-then-not-all-codes g c = record {
   only_one = only_one_stands g.F.Field.arith g.met.F.Field.lawful;
 }
 
-pub returns-then-planes-hold : goal.returns-then-planes-hold
-returns-then-planes-hold g c = record {
+pub returns-then-planes_hold : goal.returns-then-planes_hold
+returns-then-planes_hold g c = record {
   restored =
       (let f = g.F.Field.arith in
       let laws = g.met.F.Field.lawful in
@@ -78,16 +78,16 @@ returns-then-planes-hold g c = record {
       let used = s.q * s.t * s.q ^ s.t in
       let n : o.count ≡ s.q * s.t = sym c.nodes.ensures ∙ c.if-nodes.false ∙ c.nodes-2.ensures in
       let rises : rising (s.q * s.t) (outages o) ≡ true = subst (λ k. rising k (outages o) ≡ true) n o.rises in
-      let codes = codes_at f cs used (sym (front_codes f cs used _ (omega arith) (omega arith)) ∙ sym c.if-not-all-codes.ensures) in (
+      let codes = codes_at f cs used (sym (front_codes f cs used _ (omega arith) (omega arith)) ∙ sym c.if-not-all_codes.ensures) in (
         refusal_none f s.q s.t o.count (outages o) ws (omega arith) n (omega arith),
-        only_agrees f laws (shaped s) (outages o) ws cs c.clear.ensures.cleared c.fill.new.words rises (omega arith) codes c.fill.ensures.sound c.fill.ensures.checks c.fill.ensures.kept c.if-planes-hold.ensures,
+        only_agrees f laws (shaped s) (outages o) ws cs c.clear.ensures.cleared c.fill.new.words rises (omega arith) codes c.fill.ensures.sound c.fill.ensures.checks c.fill.ensures.kept c.if-planes_hold.ensures,
         c.fill.ensures.sound.0 ∙ c.clear.ensures.rest,
       ));
   only_one = only_one_stands g.F.Field.arith g.met.F.Field.lawful;
 }
 
-pub returns-else-planes-hold : goal.returns-else-planes-hold
-returns-else-planes-hold g c = record {
+pub returns-else-planes_hold : goal.returns-else-planes_hold
+returns-else-planes_hold g c = record {
   restored =
       (let f = g.F.Field.arith in
       let laws = g.met.F.Field.lawful in
@@ -98,10 +98,10 @@ returns-else-planes-hold g c = record {
       let used = s.q * s.t * s.q ^ s.t in
       let n : o.count ≡ s.q * s.t = sym c.nodes.ensures ∙ c.if-nodes.false ∙ c.nodes-2.ensures in
       let rises : rising (s.q * s.t) (outages o) ≡ true = subst (λ k. rising k (outages o) ≡ true) n o.rises in
-      let codes = codes_at f cs used (sym (front_codes f cs used _ (omega arith) (omega arith)) ∙ sym c.if-not-all-codes.ensures) in
+      let codes = codes_at f cs used (sym (front_codes f cs used _ (omega arith) (omega arith)) ∙ sym c.if-not-all_codes.ensures) in
       refused_none f s.q s.t (outages o) ws c.fill.new.words o.count (refusal_none f s.q s.t o.count (outages o) ws (omega arith) n (omega arith))
       (codes_good f laws (shaped s) (outages o) ws cs c.clear.ensures.cleared codes)
-      (none_agrees f laws (shaped s) (outages o) ws cs c.clear.ensures.cleared c.fill.new.words rises (omega arith) codes c.fill.ensures.sound c.fill.ensures.checks c.fill.ensures.kept c.if-planes-hold.ensures)
+      (none_agrees f laws (shaped s) (outages o) ws cs c.clear.ensures.cleared c.fill.new.words rises (omega arith) codes c.fill.ensures.sound c.fill.ensures.checks c.fill.ensures.kept c.if-planes_hold.ensures)
       (c.fill.ensures.sound.0 ∙ c.clear.ensures.rest));
   only_one = only_one_stands g.F.Field.arith g.met.F.Field.lawful;
 }

@@ -26,8 +26,8 @@ loop-place-preserved g c =
     let G : List ℕ → Type 0 = λ us. ScoreSolved f s.q s.t S c.args.level (p + 1) (A before) (A us) × Sound f (s.q * s.t * s.q ^ s.t) before us in
     elim c.if-score-level.branch [
       | then-score-level w ↦ subst G (sym w.words-is) (
-        solved_more f laws (shaped s) S c.args.level p (A before) (A now) (A w.solve-plane.new.words) (omega arith) (sym c.score.ensures ∙ w.if-score-level.true) inv.0 w.solve-plane.ensures.solved,
-        sound_both f (s.q * s.t * s.q ^ s.t) before now w.solve-plane.new.words inv.1 w.solve-plane.ensures.sound,
+        solved_more f laws (shaped s) S c.args.level p (A before) (A now) (A w.solve_plane.new.words) (omega arith) (sym c.score.ensures ∙ w.if-score-level.true) inv.0 w.solve_plane.ensures.solved,
+        sound_both f (s.q * s.t * s.q ^ s.t) before now w.solve_plane.new.words inv.1 w.solve_plane.ensures.sound,
       )
       | else-score-level w ↦ subst G (sym w.words-is) (solved_skip f laws (shaped s) S c.args.level p (A before) (A now) (λ e. w.if-score-level.false (c.score.ensures ∙ e)) inv.0, inv.1)
     ]

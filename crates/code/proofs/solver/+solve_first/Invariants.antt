@@ -1,4 +1,4 @@
 use Rattle.code.proofs.solver.+solve_first.Given as goal
 
-abbrev pub decreases-solve-first : goal.decreases-solve-first
-decreases-solve-first g l = l.n
+abbrev pub decreases-solve_first : goal.decreases-solve_first
+decreases-solve_first g l = l.n

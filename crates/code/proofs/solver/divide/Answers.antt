@@ -9,4 +9,4 @@ loop-k-preserved g c =
     let f = g.F.Field.arith in
     divided_more f g.met.F.Field.lawful c.args.a (outages c.args.out.now) c.args.sides.now c.loop-k.sides c.loop-k.k c.code.result (omega arith) c.loop-k.invariant
     (c.code.ensures
-    ∙ ap f.code (c.product.ensures ∙ ap₂ f.product (c.inverse-by.ensures ∙ ap f.inverse (c.difference.ensures ∙ ap (λ v. minus f v c.args.a) c.point-at.ensures)) c.element.ensures))
+    ∙ ap f.code (c.product.ensures ∙ ap₂ f.product (c.inverse-by.ensures ∙ ap f.inverse (c.difference.ensures ∙ ap (λ v. minus f v c.args.a) c.point_at.ensures)) c.element.ensures))

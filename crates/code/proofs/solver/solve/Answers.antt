@@ -15,19 +15,19 @@ returns-then-sides-n g c = record {
       (let o = outages c.args.out.now in
       let v = c.args.sides.now in
       (cond-true (ltb (length v) (length o)) _ _ (lt-ltb (length v) (length o) (omega arith)), refl));
-  some-solution = vandermonde_some g.F.Field.arith g.met.F.Field.lawful;
+  some_solution = vandermonde_some g.F.Field.arith g.met.F.Field.lawful;
   one_solution = vandermonde_one g.F.Field.arith g.met.F.Field.lawful;
 }
 
-pub returns-then-not-all-codes : goal.returns-then-not-all-codes
-returns-then-not-all-codes g c = record {
+pub returns-then-not-all_codes : goal.returns-then-not-all_codes
+returns-then-not-all_codes g c = record {
   solved =
       (let f = g.F.Field.arith in
       let o = outages c.args.out.now in
       let v = c.args.sides.now in
-      let e : first_codes f v (length o) ≡ false = sym (front_codes f v (length o) _ (omega arith) (omega arith)) ∙ sym c.if-not-all-codes.ensures in
+      let e : first_codes f v (length o) ≡ false = sym (front_codes f v (length o) _ (omega arith) (omega arith)) ∙ sym c.if-not-all_codes.ensures in
       (cond-false (ltb (length v) (length o)) _ _ (le-ltb (length v) (length o) (omega arith)) ∙ cond-true (not (first_codes f v (length o))) _ _ (not_from_false (first_codes f v (length o)) e), refl));
-  some-solution = vandermonde_some g.F.Field.arith g.met.F.Field.lawful;
+  some_solution = vandermonde_some g.F.Field.arith g.met.F.Field.lawful;
   one_solution = vandermonde_one g.F.Field.arith g.met.F.Field.lawful;
 }
 
@@ -37,14 +37,14 @@ returns g c = record {
       (let f = g.F.Field.arith in
       let o = outages c.args.out.now in
       let v = c.args.sides.now in
-      let e : first_codes f v (length o) ≡ true = sym (front_codes f v (length o) _ (omega arith) (omega arith)) ∙ sym c.if-not-all-codes.ensures in
+      let e : first_codes f v (length o) ≡ true = sym (front_codes f v (length o) _ (omega arith) (omega arith)) ∙ sym c.if-not-all_codes.ensures in
       let n : c.len-n.result ≡ length o = c.len-n.ensures in (
         cond-false (ltb (length v) (length o)) _ _ (le-ltb (length v) (length o) (omega arith)) ∙ cond-false (not (first_codes f v (length o))) _ _ (not_from_true (first_codes f v (length o)) e),
-        solution f g.met.F.Field.lawful c.args.out.now.count o v c.solve-first.new.sides c.args.out.now.few c.args.out.now.rises (omega arith)
-            (codes_at f v (length o) e) (λ k l. c.solve-first.ensures.codes k (omega arith))
-            (subst (λ m. Solves f (points f o) (reads f c.solve-first.new.sides) (reads f v) m) n c.solve-first.ensures.solves)
-            (λ k l. c.solve-first.ensures.kept k (omega arith)),
+        solution f g.met.F.Field.lawful c.args.out.now.count o v c.solve_first.new.sides c.args.out.now.few c.args.out.now.rises (omega arith)
+            (codes_at f v (length o) e) (λ k l. c.solve_first.ensures.codes k (omega arith))
+            (subst (λ m. Solves f (points f o) (reads f c.solve_first.new.sides) (reads f v) m) n c.solve_first.ensures.solves)
+            (λ k l. c.solve_first.ensures.kept k (omega arith)),
       ));
-  some-solution = vandermonde_some g.F.Field.arith g.met.F.Field.lawful;
+  some_solution = vandermonde_some g.F.Field.arith g.met.F.Field.lawful;
   one_solution = vandermonde_one g.F.Field.arith g.met.F.Field.lawful;
 }

@@ -23,7 +23,7 @@ loop-node-preserved g c =
     let b-is : c.if-contains.b ≡ x i =
     elim c.if-contains.branch [
       | then-contains w ↦ w.b-is ∙ w.zero-b.ensures ∙ sym (cond-true (S i) _ _ (sym c.contains.ensures ∙ w.if-contains.true))
-      | else-contains w ↦ w.b-is ∙ w.uncoupled-symbol-b.ensures ∙ sym (cond-false (S i) _ _ (sym c.contains.ensures ∙ w.if-contains.false))
+      | else-contains w ↦ w.b-is ∙ w.uncoupled_symbol-b.ensures ∙ sym (cond-false (S i) _ _ (sym c.contains.ensures ∙ w.if-contains.false))
     ] in
     c.sum-sum.ensures
     ∙ ap₂ f.sum c.loop-node.invariant (c.product.ensures ∙ ap₂ f.product (c.power.ensures ∙ ap (λ v. power f v c.args.e) c.point.ensures) b-is)

@@ -34,5 +34,5 @@ returns-in-Ok g c =
     let h = c.in-Ok.ensures in
     let ne : row s.q c.args.node ≡ digit s.q c.args.place (column s.q c.args.node) → ⊥ = λ e. c.if-row-digit.false (cc) in
     c.sum.ensures
-    ∙ ap₂ f.sum c.symbol-own.ensures (c.product.ensures ∙ ap₂ f.product c.coupling-element.ensures (c.symbol-other.ensures ∙ ap₂ A h.2 h.3))
+    ∙ ap₂ f.sum c.symbol-own.ensures (c.product.ensures ∙ ap₂ f.product c.coupling_element.ensures (c.symbol-other.ensures ∙ ap₂ A h.2 h.3))
     ∙ sym (cond-false (eqb (row s.q c.args.node) (digit s.q c.args.place (column s.q c.args.node))) _ _ (ne_eqb _ _ ne))

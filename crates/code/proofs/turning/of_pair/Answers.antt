@@ -7,7 +7,7 @@ pub returns : goal.returns
 unfolding of_pair
 returns g c =
     let f = g.F.Field.arith in
-    let u = c.coupling-element-u.ensures in
+    let u = c.coupling_element-u.ensures in
     c.product-3.ensures
     ∙ ap₂ f.product (c.inverse-by.ensures ∙ ap f.inverse (c.difference.ensures ∙ ap₂ (minus f) c.one.ensures (c.product.ensures ∙ ap₂ f.product u u)))
     (c.difference-2.ensures ∙ ap (minus f c.args.a) (c.product-2.ensures ∙ ap (λ v. f.product v c.args.b) u))

@@ -26,9 +26,9 @@ loop-place-preserved g c =
     let G : List ℕ → Type 0 = λ us. NodeTurned f s.q s.t S c.args.level c.args.node (p + 1) (A before) (A us) × Sound f (s.q * s.t * s.q ^ s.t) before us in
     elim c.if-score-level.branch [
       | then-score-level w ↦ subst G (sym w.words-is) (
-        node_more f laws (shaped s) S c.args.level c.args.node c.requires.node p (A before) (A now) (A w.write-symbol.new.words) w.turned-a.result (omega arith)
-            (sym c.score.ensures ∙ w.if-score-level.true) inv.0 w.turned-a.ensures w.write-symbol.ensures.wrote,
-        sound_both f (s.q * s.t * s.q ^ s.t) before now w.write-symbol.new.words inv.1 w.write-symbol.ensures.sound,
+        node_more f laws (shaped s) S c.args.level c.args.node c.requires.node p (A before) (A now) (A w.write_symbol.new.words) w.turned-a.result (omega arith)
+            (sym c.score.ensures ∙ w.if-score-level.true) inv.0 w.turned-a.ensures w.write_symbol.ensures.wrote,
+        sound_both f (s.q * s.t * s.q ^ s.t) before now w.write_symbol.new.words inv.1 w.write_symbol.ensures.sound,
       )
       | else-score-level w ↦ subst G (sym w.words-is) (
         node_skip f laws (shaped s) S c.args.level c.args.node c.requires.node p (A before) (A now) (λ e. w.if-score-level.false (c.score.ensures ∙ e)) inv.0,

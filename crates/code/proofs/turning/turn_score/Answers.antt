@@ -26,8 +26,8 @@ loop-node-preserved g c =
     let G : List ℕ → Type 0 = λ us. ScoreTurned f s.q s.t S c.args.level (i + 1) (A before) (A us) × Sound f (s.q * s.t * s.q ^ s.t) before us in
     elim c.if-contains.branch [
       | then-contains w ↦ subst G (sym w.words-is) (
-        turned_more f laws (shaped s) S c.args.level i (A before) (A now) (A w.turn-node.new.words) (omega arith) (sym c.contains.ensures ∙ w.if-contains.true) inv.0 w.turn-node.ensures.turned,
-        sound_both f (s.q * s.t * s.q ^ s.t) before now w.turn-node.new.words inv.1 w.turn-node.ensures.sound,
+        turned_more f laws (shaped s) S c.args.level i (A before) (A now) (A w.turn_node.new.words) (omega arith) (sym c.contains.ensures ∙ w.if-contains.true) inv.0 w.turn_node.ensures.turned,
+        sound_both f (s.q * s.t * s.q ^ s.t) before now w.turn_node.new.words inv.1 w.turn_node.ensures.sound,
       )
       | else-contains w ↦ subst G (sym w.words-is) (turned_skip f laws (shaped s) S c.args.level i (A before) (A now) (sym c.contains.ensures ∙ w.if-contains.false) inv.0, inv.1)
     ]

@@ -36,7 +36,7 @@ returns-then-contains g c =
     let A = symbols f (s.q ^ s.t) c.args.words.now in
     let h = c.in-Ok.ensures in
     let o : row s.q c.args.node ≡ digit s.q c.args.place (column s.q c.args.node) → ⊥ = λ e. c.if-row-digit.false (cc) in
-    c.of-pair.ensures ∙ ap₂ (of_pair f) c.symbol-own.ensures (c.symbol-other.ensures ∙ ap₂ A h.2 h.3)
+    c.of_pair.ensures ∙ ap₂ (of_pair f) c.symbol-own.ensures (c.symbol-other.ensures ∙ ap₂ A h.2 h.3)
     ∙ sym (now_both f g.met.F.Field.lawful (shaped s) S A c.args.node c.args.place o (let l = c.if-c-node.true in omega (arith, h.2)) (ap S (sym h.2) ∙ sym c.if-contains.ensures))
 
 pub returns-else-c-node : goal.returns-else-c-node
@@ -53,5 +53,5 @@ returns-else-c-node g c =
       | else-c-node-via-else-c-node w ↦ inl (let l = w.if-c-node.false in omega (arith, h.2))
     ] in
     c.difference.ensures
-    ∙ ap₂ (minus f) c.symbol-own.ensures (c.product.ensures ∙ ap₂ f.product c.coupling-element.ensures (c.symbol-other.ensures ∙ ap₂ A h.2 h.3))
+    ∙ ap₂ (minus f) c.symbol-own.ensures (c.product.ensures ∙ ap₂ f.product c.coupling_element.ensures (c.symbol-other.ensures ∙ ap₂ A h.2 h.3))
     ∙ sym (now_one f g.met.F.Field.lawful (shaped s) S A c.args.node c.args.place o which)

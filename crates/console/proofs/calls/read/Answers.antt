@@ -6,10 +6,10 @@ use Rattle.console.proofs.calls.read.Goals as goal
 pub returns : goal.returns
 returns g c =
     let v = c.args.vault.now in
-    let words = c.in-ok-words.words in
-    let before = c.as-mut-slice.result.now in
+    let words = c.in_ok-words.words in
+    let before = c.as_mut_slice.result.now in
     let after = c.read-answer.new.buffer in
-    let long = c.in-ok-words.ensures.len in
+    let long = c.in_ok-words.ensures.len in
     let from : c.from-2.result ≡ c.args.start = search rules in
     let same : length before ≡ c.args.count = search rules in
     let kept : length after ≡ words.len = search rules in (

@@ -3,7 +3,7 @@ use Rattle.std.specs.List.{between}
 use Rattle.console.specs.Session.{state_of}
 use Rattle.console.proofs.Continuing.{continues_line, continues_byte, continues_at, continues_all}
 use Rattle.console.proofs.input.answers.Goals as goal
-use Rattle.console.proofs.input.answers.Goals.{then-text-i-eq10+in-ok-answer, else-text-i-eq10}
+use Rattle.console.proofs.input.answers.Goals.{then-text-i-eq10+in_ok-answer, else-text-i-eq10}
 
 pub loop-i-preserved : goal.loop-i-preserved
 loop-i-preserved c =
@@ -14,8 +14,8 @@ loop-i-preserved c =
     let s = state_of c.loop-i.session in
     let to = continues_at text in
     elim c.if-text-i-eq10.branch [
-      | then-text-i-eq10+in-ok-answer w ↦ (
-          let a = w.in-ok-answer.ensures in
+      | then-text-i-eq10+in_ok-answer w ↦ (
+          let a = w.in_ok-answer.ensures in
           let out' = string_bytes w.answer.new.out in
           let s' = state_of w.answer.new.self in
           let more = continues_line text start i out out' (between start i text) a.0 s s' c.loop-i-test.true w.if-text-i-eq10.true refl a.1.1 a.1.0 c.loop-i.invariant.1 in

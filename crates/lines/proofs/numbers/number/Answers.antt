@@ -2,13 +2,13 @@ use Rattle.std.proofs.Common.{rules}
 use Rattle.lines.specs.Numbers.{number_in}
 use Rattle.lines.proofs.numbers.number.Goals as goal
 
-pub returns-then-is-empty : goal.returns-then-is-empty
+pub returns-then-is_empty : goal.returns-then-is_empty
 unfolding number_in
-returns-then-is-empty c = search rules
+returns-then-is_empty c = search rules
 
-pub returns-in-err-value : goal.returns-in-err-value
+pub returns-in_err-value : goal.returns-in_err-value
 unfolding number_in
-returns-in-err-value c = search rules
+returns-in_err-value c = search rules
 
 pub returns-then-value-gt-LARGEST : goal.returns-then-value-gt-LARGEST
 unfolding number_in

@@ -6,14 +6,14 @@ use Rattle.lines.proofs.Asked.{request_cut}
 use Rattle.lines.proofs.Gathered.{front}
 use Rattle.lines.proofs.reading.parse.Goals as goal
 
-pub returns-in-default : goal.returns-in-default
-returns-in-default c =
-    request_cut c.args.line.now (take c.item-end-end.result c.args.line.now) (items_after c.item-end-end.result c.args.line.now) None
-    c.item-end-end.ensures.cut (sym (ap (option_map vec_items) c.in-default.is) ∙ c.in-ok-found.ensures)
+pub returns-in_default : goal.returns-in_default
+returns-in_default c =
+    request_cut c.args.line.now (take c.item_end-end.result c.args.line.now) (items_after c.item_end-end.result c.args.line.now) None
+    c.item_end-end.ensures.cut (sym (ap (option_map vec_items) c.in_default.is) ∙ c.in_ok-found.ensures)
 
 pub returns : goal.returns
 returns c =
-    c.command-of.ensures
-    ∙ ap (λ word. asked word (vec_items c.in-Some.found)) (front c.args.line.now c.item-end-end.result)
-    ∙ request_cut c.args.line.now (take c.item-end-end.result c.args.line.now) (items_after c.item-end-end.result c.args.line.now) (Some (vec_items c.in-Some.found))
-    c.item-end-end.ensures.cut (sym (ap (option_map vec_items) c.in-Some.is) ∙ c.in-ok-found.ensures)
+    c.command_of.ensures
+    ∙ ap (λ word. asked word (vec_items c.in-Some.found)) (front c.args.line.now c.item_end-end.result)
+    ∙ request_cut c.args.line.now (take c.item_end-end.result c.args.line.now) (items_after c.item_end-end.result c.args.line.now) (Some (vec_items c.in-Some.found))
+    c.item_end-end.ensures.cut (sym (ap (option_map vec_items) c.in-Some.is) ∙ c.in_ok-found.ensures)

@@ -10,44 +10,44 @@ returns-then-spells c = asked_named c.args.word.now (codes "store") (vec_items c
 pub returns-then-spells-2 : goal.returns-then-spells-2
 unfolding asked
 returns-then-spells-2 c =
-    c.to-open.ensures
-    ∙ asked_named c.args.word.now (codes "byte") c.as-slice-numbers.result.now _ c.if-spells-2.ensures c.as-slice-numbers.ensures.value
+    c.to_open.ensures
+    ∙ asked_named c.args.word.now (codes "byte") c.as_slice-numbers.result.now _ c.if-spells-2.ensures c.as_slice-numbers.ensures.value
 
 pub returns-then-spells-3 : goal.returns-then-spells-3
 unfolding asked
 returns-then-spells-3 c =
-    c.to-open-then-spells-3.ensures
-    ∙ asked_named c.args.word.now (codes "prime") c.as-slice-numbers.result.now _ c.if-spells-3.ensures c.as-slice-numbers.ensures.value
+    c.to_open-then-spells-3.ensures
+    ∙ asked_named c.args.word.now (codes "prime") c.as_slice-numbers.result.now _ c.if-spells-3.ensures c.as_slice-numbers.ensures.value
 
 pub returns-then-spells-4 : goal.returns-then-spells-4
 unfolding asked
 returns-then-spells-4 c =
-    c.to-drop.ensures
-    ∙ asked_named c.args.word.now (codes "drop") c.as-slice-numbers.result.now _ c.if-spells-4.ensures c.as-slice-numbers.ensures.value
+    c.to_drop.ensures
+    ∙ asked_named c.args.word.now (codes "drop") c.as_slice-numbers.result.now _ c.if-spells-4.ensures c.as_slice-numbers.ensures.value
 
 pub returns-then-spells-5 : goal.returns-then-spells-5
 unfolding asked
 returns-then-spells-5 c =
-    c.to-alter.ensures
-    ∙ asked_named c.args.word.now (codes "alter") c.as-slice-numbers.result.now _ c.if-spells-5.ensures c.as-slice-numbers.ensures.value
+    c.to_alter.ensures
+    ∙ asked_named c.args.word.now (codes "alter") c.as_slice-numbers.result.now _ c.if-spells-5.ensures c.as_slice-numbers.ensures.value
 
 pub returns-then-spells-6 : goal.returns-then-spells-6
 unfolding asked
 returns-then-spells-6 c =
-    c.to-repair.ensures
-    ∙ asked_named c.args.word.now (codes "repair") c.as-slice-numbers.result.now _ c.if-spells-6.ensures c.as-slice-numbers.ensures.value
+    c.to_repair.ensures
+    ∙ asked_named c.args.word.now (codes "repair") c.as_slice-numbers.result.now _ c.if-spells-6.ensures c.as_slice-numbers.ensures.value
 
 pub returns-then-spells-7 : goal.returns-then-spells-7
 unfolding asked
 returns-then-spells-7 c =
-    c.to-recover.ensures
-    ∙ asked_named c.args.word.now (codes "recover") c.as-slice-numbers.result.now _ c.if-spells-7.ensures c.as-slice-numbers.ensures.value
+    c.to_recover.ensures
+    ∙ asked_named c.args.word.now (codes "recover") c.as_slice-numbers.result.now _ c.if-spells-7.ensures c.as_slice-numbers.ensures.value
 
 pub returns-then-spells-8 : goal.returns-then-spells-8
 unfolding asked
 returns-then-spells-8 c =
-    c.to-read.ensures
-    ∙ asked_named c.args.word.now (codes "read") c.as-slice-numbers.result.now _ c.if-spells-8.ensures c.as-slice-numbers.ensures.value
+    c.to_read.ensures
+    ∙ asked_named c.args.word.now (codes "read") c.as_slice-numbers.result.now _ c.if-spells-8.ensures c.as_slice-numbers.ensures.value
 
 pub returns : goal.returns
 returns c =

@@ -16,8 +16,8 @@ loop-place-preserved g c =
     let e = c.get.ensures in
     let long : p < length c.loop-place.out = omega (arith, c.loop-place-test.true, c.loop-place.auto.out) in
     let x = r.model c.loop-place.rack in
-    let word = c.in-ok-word.word in
-    let was : Ok word ≡ got x i p = sym c.in-ok-word.was ∙ e.answer in (
+    let word = c.in_ok-word.word in
+    let was : Ok word ≡ got x i p = sym c.in_ok-word.was ∙ e.answer in (
       r.keeping.joined _ _ _ inv.0 e.stays,
       draws_more m i p x inv.1 p word was _ e.after,
       below_more (λ q. get_or (set c.loop-place.out p word) q 0 ≡ m.words i q) p

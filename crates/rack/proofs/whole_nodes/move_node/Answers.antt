@@ -17,8 +17,8 @@ loop-place-preserved g c =
     let hq : p < b.places = omega (arith, c.if-places.false, c.places.ensures, c.loop-place-test.true) in
     let x = g.A.Rack.model c.loop-place.from in
     let y = g.B.Rack.model c.loop-place.to in
-    let word = c.in-ok-word.word in
-    let was : Ok word ≡ got x i p = sym c.in-ok-word.was ∙ c.get.ensures.answer in (
+    let word = c.in_ok-word.word in
+    let was : Ok word ≡ got x i p = sym c.in_ok-word.was ∙ c.get.ensures.answer in (
       g.A.Rack.keeping.joined _ _ _ inv.0 c.get.ensures.stays,
       g.B.Rack.keeping.joined _ _ _ inv.1 c.put.ensures.stays,
       draws_more a i p x inv.2 p word was _ c.get.ensures.after,
@@ -39,8 +39,8 @@ returns g c =
     let up = flagged a i c.stands.result hi c.stands.ensures c.if-not-stands.false in
     let all : c.loop-place.place ≡ a.places = omega (arith, c.loop-place-test.false, c.loop-place.auto.place-end, c.places-places.ensures) in
     record {
-      answer = move_answer a b i j hi hj same up x _ (ap (λ z. z.nodes) inv.2) c.take-out.ensures.answer;
-      source = move_source a b i j hi hj same up x _ (inv.2 ∙ ap (with_draws a i) all) c.take-out.ensures.after;
+      answer = move_answer a b i j hi hj same up x _ (ap (λ z. z.nodes) inv.2) c.take_out.ensures.answer;
+      source = move_source a b i j hi hj same up x _ (inv.2 ∙ ap (with_draws a i) all) c.take_out.ensures.after;
       sink = move_sink a b i j hi hj same up (g.B.Rack.model c.loop-place.to) _ (inv.3 ∙ ap (with_words b j (a.words i)) (all ∙ same)) c.raise.ensures.after;
-      stays = (g.A.Rack.keeping.joined _ _ _ inv.0 c.take-out.ensures.stays, g.B.Rack.keeping.joined _ _ _ inv.1 c.raise.ensures.stays);
+      stays = (g.A.Rack.keeping.joined _ _ _ inv.0 c.take_out.ensures.stays, g.B.Rack.keeping.joined _ _ _ inv.1 c.raise.ensures.stays);
     }

@@ -8,9 +8,9 @@ returns-in-First g c =
     let a = g.A.Rack.model c.args.first.now in
     let b = g.B.Rack.model c.args.second.now in
     record {
-      answer = c.take-out.ensures.answer ∙ done_first a b c.args.node c.in-First.i at.0 at.1 at.2;
-      after = flag_first a b c.args.node c.in-First.i at.0 at.1 at.2 false _ c.take-out.ensures.after;
-      stays = (c.take-out.ensures.stays, g.B.Rack.keeping.same c.args.second.now);
+      answer = c.take_out.ensures.answer ∙ done_first a b c.args.node c.in-First.i at.0 at.1 at.2;
+      after = flag_first a b c.args.node c.in-First.i at.0 at.1 at.2 false _ c.take_out.ensures.after;
+      stays = (c.take_out.ensures.stays, g.B.Rack.keeping.same c.args.second.now);
     }
 
 pub returns-in-Second : goal.returns-in-Second
@@ -19,7 +19,7 @@ returns-in-Second g c =
     let a = g.A.Rack.model c.args.first.now in
     let b = g.B.Rack.model c.args.second.now in
     record {
-      answer = c.take-out-in-Second.ensures.answer ∙ done_second a b c.args.node c.in-Second.i at.0 at.1 at.2;
-      after = flag_second a b c.args.node c.in-Second.i at.0 at.1 at.2 false _ c.take-out-in-Second.ensures.after;
-      stays = (g.A.Rack.keeping.same c.args.first.now, c.take-out-in-Second.ensures.stays);
+      answer = c.take_out-in-Second.ensures.answer ∙ done_second a b c.args.node c.in-Second.i at.0 at.1 at.2;
+      after = flag_second a b c.args.node c.in-Second.i at.0 at.1 at.2 false _ c.take_out-in-Second.ensures.after;
+      stays = (g.A.Rack.keeping.same c.args.first.now, c.take_out-in-Second.ensures.stays);
     }

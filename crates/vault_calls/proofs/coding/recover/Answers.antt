@@ -11,10 +11,10 @@ returns g c =
     let q = c.args.shape.q in
     let t = c.args.shape.t in
     let s = shaped c.args.shape in
-    let done = c.recover-nodes.ensures in
+    let done = c.recover_nodes.ensures in
     record {
       call = done.call;
-      history = recover_promise f q t (only_help f laws q t s) (only_codeword f laws q t s) (g.R.Rack.model c.args.rack.now) (length c.args.space.now) c.recover-nodes.result (g.R.Rack.model c.recover-nodes.new.rack) done.call;
+      history = recover_promise f q t (only_help f laws q t s) (only_codeword f laws q t s) (g.R.Rack.model c.args.rack.now) (length c.args.space.now) c.recover_nodes.result (g.R.Rack.model c.recover_nodes.new.rack) done.call;
       space = done.space;
       stays = done.stays;
     }

@@ -11,10 +11,10 @@ returns g c =
     let q = c.args.shape.q in
     let t = c.args.shape.t in
     let s = shaped c.args.shape in
-    let done = c.repair-node.ensures in
+    let done = c.repair_node.ensures in
     record {
       call = done.call;
-      history = repair_promise f q t (only_help f laws q t s) (only_codeword f laws q t s) (g.R.Rack.model c.args.rack.now) c.args.node (length c.args.space.now) c.repair-node.result (g.R.Rack.model c.repair-node.new.rack) done.call;
+      history = repair_promise f q t (only_help f laws q t s) (only_codeword f laws q t s) (g.R.Rack.model c.args.rack.now) c.args.node (length c.args.space.now) c.repair_node.result (g.R.Rack.model c.repair_node.new.rack) done.call;
       space = done.space;
       stays = done.stays;
     }

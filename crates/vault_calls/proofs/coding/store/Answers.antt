@@ -15,8 +15,8 @@ returns g c =
     let q = c.args.shape.q in
     let t = c.args.shape.t in
     let m = g.R.Rack.model c.args.rack.now in
-    let sized = c.in-ok-fits.ensures in
-    let encoded = c.in-ok-encode.ensures.encoded in
+    let sized = c.in_ok-fits.ensures in
+    let encoded = c.in_ok-encode.ensures.encoded in
     let s = c.encode.new.words in
     record {
       call = (
@@ -24,31 +24,31 @@ returns g c =
         ap (λ n. answer n 0) c.nodes.ensures,
         (
           laid (q ^ t) s,
-          (encoded.1, stored_now q t m (g.R.Rack.model c.write-listed.new.rack) (outages c.all-nodes.result) s sized c.all-nodes.ensures.list c.write-listed.ensures.after),
+          (encoded.1, stored_now q t m (g.R.Rack.model c.write_listed.new.rack) (outages c.all_nodes.result) s sized c.all_nodes.ensures.list c.write_listed.ensures.after),
         ),
       );
       space = encoded.2;
-      stays = c.write-listed.ensures.stays;
+      stays = c.write_listed.ensures.stays;
     }
 
-pub write-listed-requires : goal.write-listed-requires
-write-listed-requires g c =
+pub write_listed-requires : goal.write_listed-requires
+write_listed-requires g c =
     let used = c.args.shape.q * c.args.shape.t * c.args.shape.q ^ c.args.shape.t in
-    let long = first_none _ _ _ c.in-ok-encode.ensures.encoded.0 in
+    let long = first_none _ _ _ c.in_ok-encode.ensures.encoded.0 in
     let roomy = first_none _ _ _ long.1 in
     record {
-      sized = c.in-ok-fits.ensures;
+      sized = c.in_ok-fits.ensures;
       room = omega (arith, ltb-false (length c.args.space.now) used roomy.0, c.encode.auto.words);
     }
 
-pub returns-in-err-fits : goal.returns-in-err-fits
-returns-in-err-fits g c =
-    let p = err_from_is_err_and c.from-residual.result c.from-residual.ensures.1 in
+pub returns-in_err-fits : goal.returns-in_err-fits
+returns-in_err-fits g c =
+    let p = err_from_is_err_and c.from_residual.result c.from_residual.ensures.1 in
     let q = c.args.shape.q in
     let t = c.args.shape.t in
     let s0 = c.args.space.now in
-    let e = c.in-err-fits.field-0.0 in
-    let told = c.in-err-fits.ensures in
+    let e = c.in_err-fits.field-0.0 in
+    let told = c.in_err-fits.ensures in
     rw (p.1, p.2)
     (record {
       call = (store_size g.F.Field.arith q t (g.R.Rack.model c.args.rack.now) c.args.message.now s0 e told.0 told.1, refl);
@@ -56,20 +56,20 @@ returns-in-err-fits g c =
       stays = g.R.Rack.keeping.same c.args.rack.now;
     })
 
-pub returns-in-err-encode : goal.returns-in-err-encode
-returns-in-err-encode g c =
-    let p = err_from_is_err_and c.from-residual-in-err-encode.result c.from-residual-in-err-encode.ensures.1 in
+pub returns-in_err-encode : goal.returns-in_err-encode
+returns-in_err-encode g c =
+    let p = err_from_is_err_and c.from_residual-in_err-encode.result c.from_residual-in_err-encode.ensures.1 in
     let q = c.args.shape.q in
     let t = c.args.shape.t in
     let s0 = c.args.space.now in
-    let e = c.in-err-encode.field-0.0 in
-    let told = c.in-err-encode.ensures.encoded in
+    let e = c.in_err-encode.field-0.0 in
+    let told = c.in_err-encode.ensures.encoded in
     rw (p.1, p.2)
     (record {
-      call = (store_encode g.F.Field.arith q t (g.R.Rack.model c.args.rack.now) c.args.message.now s0 e c.in-ok-fits.ensures told.0, refl);
+      call = (store_encode g.F.Field.arith q t (g.R.Rack.model c.args.rack.now) c.args.message.now s0 e c.in_ok-fits.ensures told.0, refl);
       space = subst (λ s. Space (q * t * q ^ t) (Err e) s0 s) (sym told.1) (space_same (q * t * q ^ t) e s0);
       stays = g.R.Rack.keeping.same c.args.rack.now;
     })
 
-pub returns-in-err-write-listed : goal.returns-in-err-write-listed
-returns-in-err-write-listed g c = absurd (ok_not_err c.write-listed.result tt c.in-err-write-listed.field-0.0 c.write-listed.ensures.accepted c.in-err-write-listed.was)
+pub returns-in_err-write_listed : goal.returns-in_err-write_listed
+returns-in_err-write_listed g c = absurd (ok_not_err c.write_listed.result tt c.in_err-write_listed.field-0.0 c.write_listed.ensures.accepted c.in_err-write_listed.was)

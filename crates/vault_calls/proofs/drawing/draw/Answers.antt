@@ -6,7 +6,7 @@ use Rattle.vault_calls.specs.Steps.{takes, drawn_below, Gathered}
 use Rattle.vault_calls.proofs.Gathering.{drawn_below_none, nodes_none, drawn_below_skip, drawn_below_more, nodes_skip, nodes_more, flag_drawn}
 use Rattle.vault_calls.proofs.Refusing.{right_size, ok_not_err}
 use Rattle.vault_calls.proofs.drawing.draw.Goals as goal
-use Rattle.vault_calls.proofs.drawing.draw.Goals.{then-stands+in-ok-draw-node, else-stands}
+use Rattle.vault_calls.proofs.drawing.draw.Goals.{then-stands+in_ok-draw_node, else-stands}
 
 pub loop-i-preserved : goal.loop-i-preserved
 loop-i-preserved g c =
@@ -22,12 +22,12 @@ loop-i-preserved g c =
     let within : i < m0.nodes = omega (arith, size.0, c.nodes-i-end.ensures, c.loop-i-test.true) in
     let flag = flag_drawn m0 m i k i c.stands.result inv.0 within c.stands.ensures in
     elim c.if-stands.branch [
-      | then-stands+in-ok-draw-node w ↦
+      | then-stands+in_ok-draw_node w ↦
           let up = flag ∙ w.if-stands.true in (
-            ap model w.rack-is ∙ drawn_below_more m0 m i k inv.0 up (model w.draw-node.new.rack) w.draw-node.ensures.after,
+            ap model w.rack-is ∙ drawn_below_more m0 m i k inv.0 up (model w.draw_node.new.rack) w.draw_node.ensures.after,
             nodes_more P m0.flags test m0.words c.args.space.now i c.loop-i.space inv.1 up m.words (λ p. ap (λ x. x.words i p) inv.0) c.if-stands.space
-                (λ j p lp. ap (λ s. laid P s j p) w.space-is ∙ w.draw-node.ensures.space j p lp),
-            subst (λ r. g.R.Rack.kept c.args.rack.now r) (sym w.rack-is) (g.R.Rack.keeping.joined _ _ _ inv.2 w.draw-node.ensures.stays),
+                (λ j p lp. ap (λ s. laid P s j p) w.space-is ∙ w.draw_node.ensures.space j p lp),
+            subst (λ r. g.R.Rack.kept c.args.rack.now r) (sym w.rack-is) (g.R.Rack.keeping.joined _ _ _ inv.2 w.draw_node.ensures.stays),
           )
       | else-stands w ↦
           let out = flag ∙ w.if-stands.false in (
@@ -37,8 +37,8 @@ loop-i-preserved g c =
           )
     ]
 
-pub draw-node-requires : goal.draw-node-requires
-draw-node-requires g c =
+pub draw_node-requires : goal.draw_node-requires
+draw_node-requires g c =
     let q = c.args.shape.q in
     let t = c.args.shape.t in
     let model = g.R.Rack.model in
@@ -62,8 +62,8 @@ loop-i-init g c =
     let test = takes c.args.shape.q c.args.selection in
     (drawn_below_none m (count test P), nodes_none P m.flags test m.words c.args.space.now, g.R.Rack.keeping.same c.args.rack.now)
 
-pub returns-in-err-draw-node : goal.returns-in-err-draw-node
-returns-in-err-draw-node g c = absurd (ok_not_err c.draw-node.result tt c.in-err-draw-node.field-0.0 c.draw-node.ensures.accepted c.in-err-draw-node.was)
+pub returns-in_err-draw_node : goal.returns-in_err-draw_node
+returns-in_err-draw_node g c = absurd (ok_not_err c.draw_node.result tt c.in_err-draw_node.field-0.0 c.draw_node.ensures.accepted c.in_err-draw_node.was)
 
 pub returns : goal.returns
 returns g c =

@@ -7,7 +7,7 @@ use Rattle.vault_calls.specs.Steps.{takes}
 use Rattle.vault_calls.proofs.Gathering.{drawn_start, gathered_none, gathered_skip, gathered_more, drawn_skip, drawn_step, spot_room, gathered_all, draw_not_refused}
 use Rattle.vault_calls.proofs.Refusing.{right_size}
 use Rattle.vault_calls.proofs.drawing.draw_node.Goals as goal
-use Rattle.vault_calls.proofs.drawing.draw_node.Goals.{then-selected+in-ok-word, else-selected}
+use Rattle.vault_calls.proofs.drawing.draw_node.Goals.{then-selected+in_ok-word, else-selected}
 
 pub loop-p-init : goal.loop-p-init
 loop-p-init g c = (
@@ -16,8 +16,8 @@ loop-p-init g c = (
   g.R.Rack.keeping.same c.args.rack.now,
 )
 
-pub offset-bounds-space-node : goal.offset-bounds-space-node
-offset-bounds-space-node g c =
+pub offset_bounds-space-node : goal.offset_bounds-space-node
+offset_bounds-space-node g c =
     let n : ℕ = c.args.shape.q * c.args.shape.t in
     let P : ℕ = c.args.shape.q ^ c.args.shape.t in
     let is : c.places-places.result ≡ P = c.places-places.ensures in
@@ -44,14 +44,14 @@ loop-p-preserved g c =
     let inv = c.loop-p.invariant in
     let gathered = inv.1 in
     elim c.if-selected.branch [
-      | then-selected+in-ok-word w ↦
+      | then-selected+in_ok-word w ↦
           let on = sym c.selected.ensures ∙ w.if-selected.true in
-          let word = sym w.in-ok-word.was ∙ w.get.ensures.answer in
+          let word = sym w.in_ok-word.was ∙ w.get.ensures.answer in
           let room = spot_room n P i p (length c.loop-p.space) c.requires.node c.loop-p-test.true
           (omega (arith, ap (λ x. n * x) c.places-places.ensures, c.requires.room, c.loop-p.auto.space)) in (
-            ap model w.rack-is ∙ draws_more m0 i (count test p) m inv.0 p w.in-ok-word.word word _ w.get.ensures.after ∙ drawn_step m0 i test p on,
-            gathered_more P test m0.words c.args.space.now i c.loop-p.space p gathered w.in-ok-word.word c.loop-p-test.true room on
-                (draws_word m0 i (count test p) m inv.0 p w.in-ok-word.word word) c.if-selected.space w.space-is,
+            ap model w.rack-is ∙ draws_more m0 i (count test p) m inv.0 p w.in_ok-word.word word _ w.get.ensures.after ∙ drawn_step m0 i test p on,
+            gathered_more P test m0.words c.args.space.now i c.loop-p.space p gathered w.in_ok-word.word c.loop-p-test.true room on
+                (draws_word m0 i (count test p) m inv.0 p w.in_ok-word.word word) c.if-selected.space w.space-is,
             subst (λ r. g.R.Rack.kept c.args.rack.now r) (sym w.rack-is) (g.R.Rack.keeping.joined _ _ _ inv.2 w.get.ensures.stays),
           )
       | else-selected w ↦
@@ -62,8 +62,8 @@ loop-p-preserved g c =
           )
     ]
 
-pub overflow-mul-space : goal.overflow-mul-space
-overflow-mul-space g c =
+pub overflow_mul-space : goal.overflow_mul-space
+overflow_mul-space g c =
     let n : ℕ = c.args.shape.q * c.args.shape.t in
     let P : ℕ = c.args.shape.q ^ c.args.shape.t in
     let is : c.places-places.result ≡ P = c.places-places.ensures in
@@ -71,8 +71,8 @@ overflow-mul-space g c =
     let room = spot_room n c.places-places.result c.args.node c.loop-p.p (n * P) c.requires.node c.loop-p-test.true (omega (arith, ap (λ x. n * x) is)) in
     omega arith
 
-pub overflow-add-space : goal.overflow-add-space
-overflow-add-space g c =
+pub overflow_add-space : goal.overflow_add-space
+overflow_add-space g c =
     let n : ℕ = c.args.shape.q * c.args.shape.t in
     let P : ℕ = c.args.shape.q ^ c.args.shape.t in
     let is : c.places-places.result ≡ P = c.places-places.ensures in
@@ -80,8 +80,8 @@ overflow-add-space g c =
     let room = spot_room n c.places-places.result c.args.node c.loop-p.p (n * P) c.requires.node c.loop-p-test.true (omega (arith, ap (λ x. n * x) is)) in
     omega arith
 
-pub returns-in-err-word : goal.returns-in-err-word
-returns-in-err-word g c =
+pub returns-in_err-word : goal.returns-in_err-word
+returns-in_err-word g c =
     let q = c.args.shape.q in
     let t = c.args.shape.t in
     let m0 = g.R.Rack.model c.args.rack.now in
@@ -91,8 +91,8 @@ returns-in-err-word g c =
     let li : i < m0.nodes = omega (arith, size.0, c.requires.node) in
     let lp : p < m0.places = omega (arith, size.1, c.places-places.ensures, c.loop-p-test.true) in
     absurd
-    (draw_not_refused m0 (g.R.Rack.model c.loop-p.rack) i p (count (takes q c.args.selection) p) c.in-err-word.field-0.0 c.loop-p.invariant.0 li lp c.requires.stands
-    (sym c.in-err-word.was ∙ c.get.ensures.answer))
+    (draw_not_refused m0 (g.R.Rack.model c.loop-p.rack) i p (count (takes q c.args.selection) p) c.in_err-word.field-0.0 c.loop-p.invariant.0 li lp c.requires.stands
+    (sym c.in_err-word.was ∙ c.get.ensures.answer))
 
 pub returns : goal.returns
 returns g c =

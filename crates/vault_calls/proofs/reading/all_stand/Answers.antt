@@ -4,8 +4,8 @@ use Rattle.shape.proofs.Bounds.{shaped, message_bound}
 use Rattle.shape.proofs.Every.{every_from, every_missed}
 use Rattle.vault_calls.proofs.reading.all_stand.Goals as goal
 
-pub overflow-add-start : goal.overflow-add-start
-overflow-add-start g c = let small = message_bound (shaped c.args.shape) in omega arith
+pub overflow_add-start : goal.overflow_add-start
+overflow_add-start g c = let small = message_bound (shaped c.args.shape) in omega arith
 
 pub returns-then-not-stands : goal.returns-then-not-stands
 returns-then-not-stands g c =

@@ -10,9 +10,9 @@ returns g c =
     let q = c.args.shape.q in
     let t = c.args.shape.t in
     let s = shaped c.args.shape in
-    let done = c.read-message.ensures in
+    let done = c.read_message.ensures in
     record {
       call = done.call;
-      history = read_promise f q t (only_help f laws q t s) (only_codeword f laws q t s) (places_positive s) (g.R.Rack.model c.args.rack.now) c.args.start c.args.buffer.now c.read-message.result (g.R.Rack.model c.read-message.new.rack) c.read-message.new.buffer done.call;
+      history = read_promise f q t (only_help f laws q t s) (only_codeword f laws q t s) (places_positive s) (g.R.Rack.model c.args.rack.now) c.args.start c.args.buffer.now c.read_message.result (g.R.Rack.model c.read_message.new.rack) c.read_message.new.buffer done.call;
       stays = done.stays;
     }

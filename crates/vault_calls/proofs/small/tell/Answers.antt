@@ -6,7 +6,7 @@ use Rattle.vault_calls.proofs.small.tell.Goals as goal
 pub returns : goal.returns
 returns g c =
     let m = g.R.Rack.model c.args.rack.now in
-    let fits = c.in-ok-fits.ensures in
+    let fits = c.in_ok-fits.ensures in
     let size = right_size c.args.shape.q c.args.shape.t m fits in (
       fits,
       c.outages.ensures.count,

@@ -7,7 +7,7 @@ use Rattle.vault_calls.specs.Steps.{written_below}
 use Rattle.vault_calls.proofs.Refusing.{ok_not_err}
 use Rattle.vault_calls.proofs.Scattering.{written_none, written_skip, written_more}
 use Rattle.vault_calls.proofs.writing.write_listed.Goals as goal
-use Rattle.vault_calls.proofs.writing.write_listed.Goals.{then-contains+in-ok-write-node, else-contains}
+use Rattle.vault_calls.proofs.writing.write_listed.Goals.{then-contains+in_ok-write_node, else-contains}
 
 pub loop-i-preserved : goal.loop-i-preserved
 loop-i-preserved g c =
@@ -18,9 +18,9 @@ loop-i-preserved g c =
     let w = laid (c.args.shape.q ^ c.args.shape.t) c.args.space.now in
     let test = among (outages c.args.list.now) in
     elim c.if-contains.branch [
-      | then-contains+in-ok-write-node x ↦ (
-        ap model x.rack-is ∙ written_more m0 m test w i c.loop-i.invariant.0 (sym c.contains.ensures ∙ x.if-contains.true) (model x.write-node.new.rack) x.write-node.ensures.after,
-        subst (λ r. g.R.Rack.kept c.args.rack.now r) (sym x.rack-is) (g.R.Rack.keeping.joined c.args.rack.now c.loop-i.rack x.write-node.new.rack c.loop-i.invariant.1 x.write-node.ensures.stays),
+      | then-contains+in_ok-write_node x ↦ (
+        ap model x.rack-is ∙ written_more m0 m test w i c.loop-i.invariant.0 (sym c.contains.ensures ∙ x.if-contains.true) (model x.write_node.new.rack) x.write_node.ensures.after,
+        subst (λ r. g.R.Rack.kept c.args.rack.now r) (sym x.rack-is) (g.R.Rack.keeping.joined c.args.rack.now c.loop-i.rack x.write_node.new.rack c.loop-i.invariant.1 x.write_node.ensures.stays),
       )
       | else-contains x ↦ (
         ap model x.rack-is ∙ written_skip m0 m test w i c.loop-i.invariant.0 (sym c.contains.ensures ∙ x.if-contains.false),
@@ -28,8 +28,8 @@ loop-i-preserved g c =
       )
     ]
 
-pub write-node-requires : goal.write-node-requires
-write-node-requires g c = record {
+pub write_node-requires : goal.write_node-requires
+write_node-requires g c = record {
   sized = ap (λ x. wrong_size c.args.shape.q c.args.shape.t x) c.loop-i.invariant.0 ∙ c.requires.sized;
   node = omega (arith, c.nodes-i-end.ensures, c.loop-i-test.true);
   room = c.requires.room;
@@ -41,8 +41,8 @@ loop-i-init g c = (
   g.R.Rack.keeping.same c.args.rack.now,
 )
 
-pub returns-in-err-write-node : goal.returns-in-err-write-node
-returns-in-err-write-node g c = absurd (ok_not_err c.write-node.result tt c.in-err-write-node.field-0.0 c.write-node.ensures.accepted c.in-err-write-node.was)
+pub returns-in_err-write_node : goal.returns-in_err-write_node
+returns-in_err-write_node g c = absurd (ok_not_err c.write_node.result tt c.in_err-write_node.field-0.0 c.write_node.ensures.accepted c.in_err-write_node.was)
 
 pub returns : goal.returns
 returns g c =

@@ -9,7 +9,7 @@ pub returns : goal.returns
 returns c =
     let line = c.args.line.now in
     let command = c.in-Some.command in
-    let reply = c.in-ok-reply.reply in
-    let is : request line ≡ Some (requested command) = sym c.in-ok-command.ensures ∙ ap (option_map requested) c.in-Some.is in
-    printed_or_not c.print-reply.result (string_bytes c.args.out.now) (string_bytes c.print-reply.new.out) line (vec_items reply.words) (requested command) reply.answer
-    (state_of c.args.self.now) (state_of c.reply.new.self) is c.in-ok-reply.ensures c.print-reply.ensures
+    let reply = c.in_ok-reply.reply in
+    let is : request line ≡ Some (requested command) = sym c.in_ok-command.ensures ∙ ap (option_map requested) c.in-Some.is in
+    printed_or_not c.print_reply.result (string_bytes c.args.out.now) (string_bytes c.print_reply.new.out) line (vec_items reply.words) (requested command) reply.answer
+    (state_of c.args.self.now) (state_of c.reply.new.self) is c.in_ok-reply.ensures c.print_reply.ensures

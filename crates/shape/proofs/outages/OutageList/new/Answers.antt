@@ -5,10 +5,10 @@ use Rattle.shape.specs.Outages.{rising}
 use Rattle.shape.proofs.Rising.{rising_refused}
 use Rattle.shape.proofs.outages.OutageList.new.Goals as goal
 
-pub returns-in-err-push : goal.returns-in-err-push
-returns-in-err-push c =
-    let p = err_from_is_err_and c.from-residual.result c.from-residual.ensures.1 in
-    let r = c.in-err-push.ensures.list in
+pub returns-in_err-push : goal.returns-in_err-push
+returns-in_err-push c =
+    let p = err_from_is_err_and c.from_residual.result c.from_residual.ensures.1 in
+    let r = c.in_err-push.ensures.list in
     let xs = c.args.nodes.now in
     let k = c.loop-node.node-index in
     let e : rising (c.args.shape.q * c.args.shape.t) (take k xs ++ get_or xs k 0 ∷ []) ≡ false = cc in
@@ -16,7 +16,7 @@ returns-in-err-push c =
 
 pub loop-node-preserved : goal.loop-node-preserved
 loop-node-preserved c =
-    let r = c.in-ok-push.ensures in
+    let r = c.in_ok-push.ensures in
     let k = take_more c.args.nodes.now c.loop-node.node-index 0 c.loop-node-test.true in
     (cc, cc)
 

@@ -7,12 +7,16 @@ use Rattle.shape.proofs.outages.OutageList.push.Goals as goal
 pub bounds-self-self : goal.bounds-self-self
 bounds-self-self c = outages_room c.args.self.now c.args.node (search rules) (sym c.if-not-admits.ensures)
 
-pub invariant-of-self : goal.invariant-of-self
-invariant-of-self c =
+pub invariant_of-self : goal.invariant_of-self
+invariant_of-self c =
     let o = c.args.self.now in
     let i : o.len < 16 = outages_room o c.args.node (search rules) (sym c.if-not-admits.ensures) in
     let j : o.len < length o.numbers = search rules in
-    (omega arith, (omega arith, (ap (rising o.count) (take_more_set o.numbers o.len c.args.node j) ∙ sym c.if-not-admits.ensures, tt)))
+    record {
+      few = omega arith;
+      held = omega arith;
+      rises = ap (rising o.count) (take_more_set o.numbers o.len c.args.node j) ∙ sym c.if-not-admits.ensures;
+    }
 
 pub returns : goal.returns
 returns c =

@@ -24,6 +24,6 @@ returns c =
     let stood = stands_as (vec_len s.nodes) s.places (vec_items s.nodes) (vec_items s.words) i c.index.result.now (sym s.nodes.ok.0) hi c.index.ensures up in
     record {
       answer = ap Ok (word ∙ sym (at_place (vec_len s.nodes) s.places (vec_items s.nodes) (vec_items s.words) i p hi hp)) ∙ sym (got_ok (table_model s) i p hi hp stood);
-      after = table_get _ _ _ _ i c.index.result.now (sym s.nodes.ok.0) hi c.index.ensures c.index-mut.result.now c.draw.new.self c.index-mut.ensures.value c.draw.ensures.standing c.draw.ensures.meter p hp up;
+      after = table_get _ _ _ _ i c.index.result.now (sym s.nodes.ok.0) hi c.index.ensures c.index_mut.result.now c.draw.new.self c.index_mut.ensures.value c.draw.ensures.standing c.draw.ensures.meter p hp up;
       stays = (refl, refl);
     }

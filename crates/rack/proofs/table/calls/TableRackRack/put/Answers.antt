@@ -4,8 +4,8 @@ use Rattle.rack.proofs.Models.{done_ok, is_within, after_put_ok, place_below}
 use Rattle.rack.proofs.Tables.{set_word}
 use Rattle.rack.proofs.table.calls.TableRackRack.put.Goals as goal
 
-pub index-mut-requires : goal.index-mut-requires
-index-mut-requires c =
+pub index_mut-requires : goal.index_mut-requires
+index_mut-requires c =
     let s = c.args.self.now in
     let hi : c.args.node < vec_len s.nodes = omega (arith, c.len.ensures, c.if-node-len.false) in
     omega (arith, place_below s.places (vec_len s.nodes) c.args.node c.args.place hi c.if-place-self.false, s.full)

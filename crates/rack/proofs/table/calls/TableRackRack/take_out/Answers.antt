@@ -10,6 +10,6 @@ returns c =
     let hi : c.args.node < vec_len s.nodes = omega (arith, c.len.ensures, c.if-node-len.false) in
     record {
       answer = done_ok _ (lt-ltb _ _ hi);
-      after = table_flag _ _ _ _ _ c.index-mut.result.now (sym s.nodes.ok.0) hi c.index-mut.ensures.value false;
+      after = table_flag _ _ _ _ _ c.index_mut.result.now (sym s.nodes.ok.0) hi c.index_mut.ensures.value false;
       stays = (refl, refl);
     }

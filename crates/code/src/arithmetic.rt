@@ -7,7 +7,7 @@ use field::Field;
 
 // The element of a word; zero for a word that is no code.
 pub(crate) fn element<F: Field>(word: u16) -> F::Element
-    ensures { result ≡ read F.Field.arith word }
+    ensures { result ≡ read F.arith word }
 {
     match F::element(word) {
         Ok(a) => a,
@@ -17,14 +17,14 @@ pub(crate) fn element<F: Field>(word: u16) -> F::Element
 
 // a - b
 pub(crate) fn difference<F: Field>(a: F::Element, b: F::Element) -> F::Element
-    ensures { result ≡ minus F.Field.arith a b }
+    ensures { result ≡ minus F.arith a b }
 {
     F::sum(a, F::negative(b))
 }
 
 // The e-th power of an element; power 0 is one.
 pub(crate) fn power<F: Field>(a: F::Element, e: usize) -> F::Element
-    ensures { result ≡ power F.Field.arith a e }
+    ensures { result ≡ power F.arith a e }
 {
     let mut result = F::one();
     for _ in 0..e {

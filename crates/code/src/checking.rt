@@ -11,7 +11,7 @@ use shape::{OutageList, Shape};
 
 // Whether every word is a code.
 pub fn all_codes<F: Field>(words: &[u16]) -> bool
-    ensures { result ≡ all_codes F.Field.arith words.now }
+    ensures { result ≡ all_codes F.arith words.now }
 {
     let size = F::codes();
     for word in words {
@@ -26,7 +26,7 @@ pub fn all_codes<F: Field>(words: &[u16]) -> bool
 fn plane_holds<F: Field>(shape: Shape, words: &[u16], place: usize) -> bool
     requires place { place < shape.q ^ shape.t }
     requires room { shape.q * shape.t * shape.q ^ shape.t ≤ length words.now }
-    ensures { Tells result ((e : ℕ) → e < shape.q → check F.Field.arith shape.q shape.t (symbols F.Field.arith (shape.q ^ shape.t) words.now) place e ≡ F.Field.arith.zero) }
+    ensures { Tells result ((e : ℕ) → e < shape.q → check F.arith shape.q shape.t (symbols F.arith (shape.q ^ shape.t) words.now) place e ≡ F.arith.zero) }
 {
     let none = OutageList::none(shape);
     for e in 0..shape.rows() {
@@ -40,7 +40,7 @@ fn plane_holds<F: Field>(shape: Shape, words: &[u16], place: usize) -> bool
 // Whether every check of every plane is zero.
 pub(crate) fn planes_hold<F: Field>(shape: Shape, words: &[u16]) -> bool
     requires { shape.q * shape.t * shape.q ^ shape.t ≤ length words.now }
-    ensures { Tells result (Checks F.Field.arith shape.q shape.t shape.q (symbols F.Field.arith (shape.q ^ shape.t) words.now)) }
+    ensures { Tells result (Checks F.arith shape.q shape.t shape.q (symbols F.arith (shape.q ^ shape.t) words.now)) }
 {
     for place in 0..shape.places() {
         if !plane_holds::<F>(shape, words, place) {
@@ -52,7 +52,7 @@ pub(crate) fn planes_hold<F: Field>(shape: Shape, words: &[u16]) -> bool
 
 // Whether the first words are a codeword.
 pub fn checks_hold<F: Field>(shape: Shape, words: &[u16]) -> Result<bool, Refusal>
-    ensures { Checked F.Field.arith shape.q shape.t words.now result }
+    ensures { Checked F.arith shape.q shape.t words.now result }
 {
     let used = shape.words();
     if words.len() < used {

@@ -24,8 +24,8 @@ fn copy_message(message: &[u16], words: &mut [u16])
 
 // Makes the first words the only codeword that carries the message in its data nodes.
 pub fn encode<F: Field>(shape: Shape, message: &[u16], words: &mut [u16]) -> Result<(), Refusal>
-    ensures encoded { Encoded F.Field.arith shape.q shape.t message.now words.old result words.new }
-    ensures some_one { SomeOne F.Field.arith }
+    ensures encoded { Encoded F.arith shape.q shape.t message.now words.old result words.new }
+    ensures some_one { SomeOne F.arith }
 {
     if message.len() != shape.message_words() {
         return Err(Refusal::MessageLength);

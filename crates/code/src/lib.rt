@@ -1,5 +1,6 @@
 // The coupled-layer code on slices of words: solve one plane, restore nodes, encode a message, rebuild a node, test the checks.
 #![tactic(auto)]
+
 mod arithmetic;
 mod checking;
 mod encoding;

@@ -30,7 +30,7 @@ pub(crate) fn score(shape: Shape, out: &OutageList, place: usize) -> usize
 fn plane_sides<F: Field>(shape: Shape, out: &OutageList, words: &[u16], place: usize) -> [u16; 16]
     requires place { place < shape.q ^ shape.t }
     requires room { shape.q * shape.t * shape.q ^ shape.t ≤ length words.now }
-    ensures { (e : ℕ) → e < length (outages out.now) → slice_index result e ≡ F.Field.arith.code (lacks F.Field.arith shape.q shape.t (among (outages out.now)) (symbols F.Field.arith (shape.q ^ shape.t) words.now) place e) }
+    ensures { (e : ℕ) → e < length (outages out.now) → slice_index result e ≡ F.arith.code (lacks F.arith shape.q shape.t (among (outages out.now)) (symbols F.arith (shape.q ^ shape.t) words.now) place e) }
 {
     let mut sides = [0u16; 16];
     for e in 0..out.len() {
@@ -49,7 +49,7 @@ pub(crate) fn plane_solution<F: Field>(
     requires place { place < shape.q ^ shape.t }
     requires room { shape.q * shape.t * shape.q ^ shape.t ≤ length words.now }
     requires count { out.now.count ≡ shape.q * shape.t }
-    ensures { HoldsSolution F.Field.arith shape.q shape.t (among (outages out.now)) (symbols F.Field.arith (shape.q ^ shape.t) words.now) place (outages out.now) result (length (outages out.now)) }
+    ensures { HoldsSolution F.arith shape.q shape.t (among (outages out.now)) (symbols F.arith (shape.q ^ shape.t) words.now) place (outages out.now) result (length (outages out.now)) }
 {
     let mut sides = plane_sides::<F>(shape, out, words, place);
     solve_first::<F>(out, &mut sides, out.len());
@@ -61,8 +61,8 @@ pub(crate) fn solve_plane<F: Field>(shape: Shape, out: &OutageList, words: &mut 
     requires place { place < shape.q ^ shape.t }
     requires room { shape.q * shape.t * shape.q ^ shape.t ≤ length words.old }
     requires count { out.now.count ≡ shape.q * shape.t }
-    ensures solved { PlaneSolved F.Field.arith shape.q shape.t (among (outages out.now)) place (symbols F.Field.arith (shape.q ^ shape.t) words.old) (symbols F.Field.arith (shape.q ^ shape.t) words.new) }
-    ensures sound { Sound F.Field.arith (shape.q * shape.t * shape.q ^ shape.t) words.old words.new }
+    ensures solved { PlaneSolved F.arith shape.q shape.t (among (outages out.now)) place (symbols F.arith (shape.q ^ shape.t) words.old) (symbols F.arith (shape.q ^ shape.t) words.new) }
+    ensures sound { Sound F.arith (shape.q * shape.t * shape.q ^ shape.t) words.old words.new }
 {
     let solution = plane_solution::<F>(shape, out, words, place);
     for k in 0..out.len() {

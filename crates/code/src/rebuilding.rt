@@ -21,7 +21,7 @@ use shape::{OutageList, Shape};
 fn helper_codes<F: Field>(shape: Shape, words: &[u16], node: usize, helper: usize) -> bool
     requires helper { helper < shape.q * shape.t }
     requires room { shape.q * shape.t * shape.q ^ shape.t ≤ length words.now }
-    ensures { result ≡ helper_codes F.Field.arith shape.q shape.t (laid (shape.q ^ shape.t) words.now) node helper }
+    ensures { result ≡ helper_codes F.arith shape.q shape.t (laid (shape.q ^ shape.t) words.now) node helper }
 {
     let size = F::codes();
     for place in 0..shape.places() {
@@ -38,7 +38,7 @@ fn helper_codes<F: Field>(shape: Shape, words: &[u16], node: usize, helper: usiz
 // Whether every helper word of a node is a code.
 fn help_codes<F: Field>(shape: Shape, words: &[u16], node: usize) -> bool
     requires { shape.q * shape.t * shape.q ^ shape.t ≤ length words.now }
-    ensures { result ≡ good_help F.Field.arith shape.q shape.t (laid (shape.q ^ shape.t) words.now) node }
+    ensures { result ≡ good_help F.arith shape.q shape.t (laid (shape.q ^ shape.t) words.now) node }
 {
     for helper in 0..shape.nodes() {
         if helper != node && !helper_codes::<F>(shape, words, node, helper) {
@@ -60,7 +60,7 @@ fn refilled<F: Field>(
     requires helper { helper < shape.q * shape.t }
     requires plane { plane < shape.q ^ shape.t }
     requires room { shape.q * shape.t * shape.q ^ shape.t ≤ length words.now }
-    ensures { result ≡ given F.Field.arith node helper (symbols F.Field.arith (shape.q ^ shape.t) words.now helper plane) b }
+    ensures { result ≡ given F.arith node helper (symbols F.arith (shape.q ^ shape.t) words.now helper plane) b }
 {
     if helper == node {
         return b;
@@ -83,7 +83,7 @@ fn refill_from<F: Field>(
     requires count { column.now.count ≡ shape.q * shape.t }
     requires nodes { Run (column-of shape.q node * shape.q) (outages column.now) shape.q }
     requires helps { Helps shape.q node plane }
-    ensures { PlaneRefilled F.Field.arith shape.q shape.t (among (outages column.now)) node plane shape.q words.old words.new }
+    ensures { PlaneRefilled F.arith shape.q shape.t (among (outages column.now)) node plane shape.q words.old words.new }
 {
     let solution = plane_solution::<F>(shape, column, words, plane);
     for k in 0..shape.rows() {
@@ -98,7 +98,7 @@ fn refill_from<F: Field>(
 fn refill<F: Field>(shape: Shape, words: &mut [u16], node: usize)
     requires node { node < shape.q * shape.t }
     requires room { shape.q * shape.t * shape.q ^ shape.t ≤ length words.old }
-    ensures { NodeRefilled F.Field.arith shape.q shape.t node words.old words.new }
+    ensures { NodeRefilled F.arith shape.q shape.t node words.old words.new }
 {
     let column = span(shape, shape.column(node) * shape.rows());
     for plane in 0..shape.places() {
@@ -110,9 +110,9 @@ fn refill<F: Field>(shape: Shape, words: &mut [u16], node: usize)
 
 // Makes the words of a node the only codes with which the checks of the planes that help it hold.
 pub fn rebuild<F: Field>(shape: Shape, node: usize, words: &mut [u16]) -> Result<(), Refusal>
-    ensures rebuilt { Rebuilt F.Field.arith shape.q shape.t node words.old result words.new }
-    ensures repair_one { RepairOne F.Field.arith }
-    ensures repair_some { RepairSome F.Field.arith }
+    ensures rebuilt { Rebuilt F.arith shape.q shape.t node words.old result words.new }
+    ensures repair_one { RepairOne F.arith }
+    ensures repair_some { RepairSome F.arith }
 {
     if words.len() < shape.words() {
         return Err(Refusal::WorkSpace);

@@ -46,8 +46,8 @@ fn clear(shape: Shape, out: &OutageList, words: &mut [u16])
 fn solve_score<F: Field>(shape: Shape, out: &OutageList, words: &mut [u16], level: usize)
     requires room { shape.q * shape.t * shape.q ^ shape.t ≤ length words.old }
     requires count { out.now.count ≡ shape.q * shape.t }
-    ensures solved { ScoreSolved F.Field.arith shape.q shape.t (among (outages out.now)) level (shape.q ^ shape.t) (symbols F.Field.arith (shape.q ^ shape.t) words.old) (symbols F.Field.arith (shape.q ^ shape.t) words.new) }
-    ensures sound { Sound F.Field.arith (shape.q * shape.t * shape.q ^ shape.t) words.old words.new }
+    ensures solved { ScoreSolved F.arith shape.q shape.t (among (outages out.now)) level (shape.q ^ shape.t) (symbols F.arith (shape.q ^ shape.t) words.old) (symbols F.arith (shape.q ^ shape.t) words.new) }
+    ensures sound { Sound F.arith (shape.q * shape.t * shape.q ^ shape.t) words.old words.new }
 {
     for place in 0..shape.places() {
         if score(shape, out, place) == level {
@@ -60,9 +60,9 @@ fn solve_score<F: Field>(shape: Shape, out: &OutageList, words: &mut [u16], leve
 fn fill<F: Field>(shape: Shape, out: &OutageList, words: &mut [u16])
     requires room { shape.q * shape.t * shape.q ^ shape.t ≤ length words.old }
     requires count { out.now.count ≡ shape.q * shape.t }
-    ensures checks { Checks F.Field.arith shape.q shape.t (length (outages out.now)) (symbols F.Field.arith (shape.q ^ shape.t) words.new) }
-    ensures kept { Agree F.Field.arith shape.q shape.t (among (outages out.now)) (symbols F.Field.arith (shape.q ^ shape.t) words.new) (symbols F.Field.arith (shape.q ^ shape.t) words.old) }
-    ensures sound { Sound F.Field.arith (shape.q * shape.t * shape.q ^ shape.t) words.old words.new }
+    ensures checks { Checks F.arith shape.q shape.t (length (outages out.now)) (symbols F.arith (shape.q ^ shape.t) words.new) }
+    ensures kept { Agree F.arith shape.q shape.t (among (outages out.now)) (symbols F.arith (shape.q ^ shape.t) words.new) (symbols F.arith (shape.q ^ shape.t) words.old) }
+    ensures sound { Sound F.arith (shape.q * shape.t * shape.q ^ shape.t) words.old words.new }
 {
     for level in 0..shape.columns() + 1 {
         solve_score::<F>(shape, out, words, level);
@@ -72,8 +72,8 @@ fn fill<F: Field>(shape: Shape, out: &OutageList, words: &mut [u16])
 
 // Makes the first words the only codeword that agrees with the nodes that are not listed, at most q being listed.
 pub fn restore<F: Field>(shape: Shape, out: &OutageList, words: &mut [u16]) -> Result<(), Refusal>
-    ensures restored { Restored F.Field.arith shape.q shape.t out.now.count (outages out.now) words.old result words.new }
-    ensures only_one { OnlyOne F.Field.arith }
+    ensures restored { Restored F.arith shape.q shape.t out.now.count (outages out.now) words.old result words.new }
+    ensures only_one { OnlyOne F.arith }
 {
     let used = shape.words();
     if words.len() < used {

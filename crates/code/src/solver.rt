@@ -15,7 +15,7 @@ use shape::OutageList;
 
 // The point of the node at an index of a list.
 fn point_at<F: Field>(out: &OutageList, index: usize) -> F::Element
-    ensures { result ≡ F.Field.arith.point (slice_index (outages out.now) index) }
+    ensures { result ≡ F.arith.point (slice_index (outages out.now) index) }
 {
     F::point(listed_node(out, index))
 }
@@ -23,7 +23,7 @@ fn point_at<F: Field>(out: &OutageList, index: usize) -> F::Element
 // The sum of the first n elements.
 fn sum_first<F: Field>(sides: &[u16], n: usize) -> F::Element
     requires { n ≤ length sides.now }
-    ensures { result ≡ total F.Field.arith (reads F.Field.arith sides.now) n }
+    ensures { result ≡ total F.arith (reads F.arith sides.now) n }
 {
     let mut sum = F::zero();
     for i in 0..n {
@@ -35,7 +35,7 @@ fn sum_first<F: Field>(sides: &[u16], n: usize) -> F::Element
 // Takes `a` times each right side from the next one.
 fn reduce<F: Field>(a: F::Element, sides: &mut [u16], n: usize)
     requires { n < length sides.old }
-    ensures reduced { Reduced F.Field.arith a sides.old sides.new n }
+    ensures reduced { Reduced F.arith a sides.old sides.new n }
     ensures kept { KeptFrom sides.old sides.new n }
 {
     for e in 0..n {
@@ -48,8 +48,8 @@ fn reduce<F: Field>(a: F::Element, sides: &mut [u16], n: usize)
 // Divides each of the first n elements by the difference of its point from `a`.
 fn divide<F: Field>(out: &OutageList, a: F::Element, sides: &mut [u16], n: usize)
     requires { n ≤ length sides.old }
-    ensures divided { Divided F.Field.arith a (outages out.now) sides.old sides.new n }
-    ensures codes { Codes F.Field.arith sides.new n }
+    ensures divided { Divided F.arith a (outages out.now) sides.old sides.new n }
+    ensures codes { Codes F.arith sides.new n }
     ensures kept { KeptFrom sides.old sides.new n }
 {
     for k in 0..n {
@@ -62,8 +62,8 @@ fn divide<F: Field>(out: &OutageList, a: F::Element, sides: &mut [u16], n: usize
 pub(crate) fn solve_first<F: Field>(out: &OutageList, sides: &mut [u16], n: usize)
     requires room { n ≤ length sides.old }
     requires listed { n ≤ length (outages out.now) }
-    ensures solves { Solves F.Field.arith (points F.Field.arith (outages out.now)) (reads F.Field.arith sides.new) (reads F.Field.arith sides.old) n }
-    ensures codes { Codes F.Field.arith sides.new n }
+    ensures solves { Solves F.arith (points F.arith (outages out.now)) (reads F.arith sides.new) (reads F.arith sides.old) n }
+    ensures codes { Codes F.arith sides.new n }
     ensures kept { KeptFrom sides.old sides.new n }
 {
     if n > 0 {
@@ -81,9 +81,9 @@ pub(crate) fn solve_first<F: Field>(out: &OutageList, sides: &mut [u16], n: usiz
 // Finds the only codes x with the moments that the first words are: word e is the sum over the listed nodes of point^e times x.
 // The words are then those codes.
 pub fn solve<F: Field>(out: &OutageList, sides: &mut [u16]) -> Result<(), Refusal>
-    ensures solved { Solved F.Field.arith (outages out.now) sides.old result sides.new }
-    ensures some_solution { VandermondeSome F.Field.arith }
-    ensures one_solution { VandermondeOne F.Field.arith }
+    ensures solved { Solved F.arith (outages out.now) sides.old result sides.new }
+    ensures some_solution { VandermondeSome F.arith }
+    ensures one_solution { VandermondeOne F.arith }
 {
     let n = out.len();
     if sides.len() < n {

@@ -27,7 +27,7 @@ pub(crate) fn symbol<F: Field>(shape: Shape, words: &[u16], node: usize, place: 
     requires node { node < shape.q * shape.t }
     requires place { place < shape.q ^ shape.t }
     requires room { shape.q * shape.t * shape.q ^ shape.t ≤ length words.now }
-    ensures { result ≡ symbols F.Field.arith (shape.q ^ shape.t) words.now node place }
+    ensures { result ≡ symbols F.arith (shape.q ^ shape.t) words.now node place }
 {
     let at = spot(shape, node, place);
     element::<F>(words[at])
@@ -44,9 +44,9 @@ pub(crate) fn write_symbol<F: Field>(
     requires node { node < shape.q * shape.t }
     requires place { place < shape.q ^ shape.t }
     requires room { shape.q * shape.t * shape.q ^ shape.t ≤ length words.old }
-    ensures wrote { Wrote (shape.q ^ shape.t) node place a (symbols F.Field.arith (shape.q ^ shape.t) words.old) (symbols F.Field.arith (shape.q ^ shape.t) words.new) }
-    ensures sound { Sound F.Field.arith (shape.q * shape.t * shape.q ^ shape.t) words.old words.new }
-    ensures same { words.new ≡ slice_set words.old (node * shape.q ^ shape.t + place) (F.Field.arith.code a) }
+    ensures wrote { Wrote (shape.q ^ shape.t) node place a (symbols F.arith (shape.q ^ shape.t) words.old) (symbols F.arith (shape.q ^ shape.t) words.new) }
+    ensures sound { Sound F.arith (shape.q * shape.t * shape.q ^ shape.t) words.old words.new }
+    ensures same { words.new ≡ slice_set words.old (node * shape.q ^ shape.t + place) (F.arith.code a) }
 {
     let at = spot(shape, node, place);
     words[at] = F::code(a);
@@ -74,7 +74,7 @@ pub(crate) fn uncoupled_symbol<F: Field>(
     requires node { node < shape.q * shape.t }
     requires place { place < shape.q ^ shape.t }
     requires room { shape.q * shape.t * shape.q ^ shape.t ≤ length words.now }
-    ensures { result ≡ uncoupled F.Field.arith shape.q (symbols F.Field.arith (shape.q ^ shape.t) words.now) node place }
+    ensures { result ≡ uncoupled F.arith shape.q (symbols F.arith (shape.q ^ shape.t) words.now) node place }
 {
     let own = symbol::<F>(shape, words, node, place);
     if shape.row(node) == shape.digit(place, shape.column(node)) {
@@ -99,7 +99,7 @@ pub(crate) fn known_sum<F: Field>(
 ) -> F::Element
     requires place { place < shape.q ^ shape.t }
     requires room { shape.q * shape.t * shape.q ^ shape.t ≤ length words.now }
-    ensures { result ≡ moment F.Field.arith F.Field.arith.point (known F.Field.arith shape.q (among (outages out.now)) (symbols F.Field.arith (shape.q ^ shape.t) words.now) place) (shape.q * shape.t) e }
+    ensures { result ≡ moment F.arith F.arith.point (known F.arith shape.q (among (outages out.now)) (symbols F.arith (shape.q ^ shape.t) words.now) place) (shape.q * shape.t) e }
 {
     let mut sum = F::zero();
     for node in 0..shape.nodes() {

@@ -14,7 +14,7 @@ use shape::{OutageList, Shape};
 
 // The first symbol of a pair, from the uncoupled symbols of both.
 fn of_pair<F: Field>(a: F::Element, b: F::Element) -> F::Element
-    ensures { result ≡ of_pair F.Field.arith a b }
+    ensures { result ≡ of_pair F.arith a b }
 {
     let u = F::coupling_element();
     let by = F::inverse(difference::<F>(F::one(), F::product(u, u)));
@@ -32,7 +32,7 @@ fn turned<F: Field>(
     requires node { node < shape.q * shape.t }
     requires place { place < shape.q ^ shape.t }
     requires room { shape.q * shape.t * shape.q ^ shape.t ≤ length words.now }
-    ensures { result ≡ turn_now F.Field.arith shape.q shape.t (among (outages out.now)) (symbols F.Field.arith (shape.q ^ shape.t) words.now) node place }
+    ensures { result ≡ turn_now F.arith shape.q shape.t (among (outages out.now)) (symbols F.arith (shape.q ^ shape.t) words.now) node place }
 {
     let own = symbol::<F>(shape, words, node, place);
     if shape.row(node) == shape.digit(place, shape.column(node)) {
@@ -55,8 +55,8 @@ fn turned<F: Field>(
 fn turn_node<F: Field>(shape: Shape, out: &OutageList, words: &mut [u16], node: usize, level: usize)
     requires node { node < shape.q * shape.t }
     requires room { shape.q * shape.t * shape.q ^ shape.t ≤ length words.old }
-    ensures turned { NodeTurned F.Field.arith shape.q shape.t (among (outages out.now)) level node (shape.q ^ shape.t) (symbols F.Field.arith (shape.q ^ shape.t) words.old) (symbols F.Field.arith (shape.q ^ shape.t) words.new) }
-    ensures sound { Sound F.Field.arith (shape.q * shape.t * shape.q ^ shape.t) words.old words.new }
+    ensures turned { NodeTurned F.arith shape.q shape.t (among (outages out.now)) level node (shape.q ^ shape.t) (symbols F.arith (shape.q ^ shape.t) words.old) (symbols F.arith (shape.q ^ shape.t) words.new) }
+    ensures sound { Sound F.arith (shape.q * shape.t * shape.q ^ shape.t) words.old words.new }
 {
     for place in 0..shape.places() {
         if score(shape, out, place) == level {
@@ -69,8 +69,8 @@ fn turn_node<F: Field>(shape: Shape, out: &OutageList, words: &mut [u16], node: 
 // Turns the symbols of the listed nodes in the planes of a score.
 pub(crate) fn turn_score<F: Field>(shape: Shape, out: &OutageList, words: &mut [u16], level: usize)
     requires { shape.q * shape.t * shape.q ^ shape.t ≤ length words.old }
-    ensures turned { ScoreTurned F.Field.arith shape.q shape.t (among (outages out.now)) level (shape.q * shape.t) (symbols F.Field.arith (shape.q ^ shape.t) words.old) (symbols F.Field.arith (shape.q ^ shape.t) words.new) }
-    ensures sound { Sound F.Field.arith (shape.q * shape.t * shape.q ^ shape.t) words.old words.new }
+    ensures turned { ScoreTurned F.arith shape.q shape.t (among (outages out.now)) level (shape.q * shape.t) (symbols F.arith (shape.q ^ shape.t) words.old) (symbols F.arith (shape.q ^ shape.t) words.new) }
+    ensures sound { Sound F.arith (shape.q * shape.t * shape.q ^ shape.t) words.old words.new }
 {
     for node in 0..shape.nodes() {
         if out.contains(node) {

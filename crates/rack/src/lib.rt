@@ -1,5 +1,6 @@
 // Racks of nodes behind one trait, a rack in memory of its own, and work on whole nodes of any rack.
 #![tactic(auto)]
+
 pub mod counts;
 pub mod node;
 pub mod table;

@@ -8,9 +8,9 @@ use refusal::Refusal;
 
 // Writes the words of a node and raises it.
 pub fn fill_node<R: Rack>(rack: &mut R, node: usize, words: &[u16]) -> Result<(), Refusal>
-    ensures answer { result ≡ done (sized (model rack.old) node (length words.now)) }
-    ensures after { model rack.new ≡ after_fill (model rack.old) node words.now }
-    ensures stays { kept rack.old rack.new }
+    ensures answer { result ≡ done (sized (R.model rack.old) node (length words.now)) }
+    ensures after { R.model rack.new ≡ after_fill (R.model rack.old) node words.now }
+    ensures stays { R.kept rack.old rack.new }
 {
     if node >= rack.nodes() || words.len() != rack.places() {
         return Err(Refusal::NoSuchPlace);
@@ -23,10 +23,10 @@ pub fn fill_node<R: Rack>(rack: &mut R, node: usize, words: &[u16]) -> Result<()
 
 // Copies the words of a standing node, each drawn once.
 pub fn copy_node<R: Rack>(rack: &mut R, node: usize, out: &mut [u16]) -> Result<(), Refusal>
-    ensures answer { result ≡ drawn (sized (model rack.old) node (length out.old)) ((model rack.old).flags node) }
-    ensures after { model rack.new ≡ after_copy (model rack.old) node out.old }
-    ensures words { out.new ≡ copied (model rack.old) node out.old }
-    ensures stays { kept rack.old rack.new }
+    ensures answer { result ≡ drawn (sized (R.model rack.old) node (length out.old)) ((R.model rack.old).flags node) }
+    ensures after { R.model rack.new ≡ after_copy (R.model rack.old) node out.old }
+    ensures words { out.new ≡ copied (R.model rack.old) node out.old }
+    ensures stays { R.kept rack.old rack.new }
 {
     let len = out.len();
     if node >= rack.nodes() || len != rack.places() {
@@ -49,10 +49,10 @@ pub fn move_node<A: Rack, B: Rack>(
     to: &mut B,
     target: usize,
 ) -> Result<(), Refusal>
-    ensures answer { result ≡ drawn (movable (A.Rack.model from.old) node (B.Rack.model to.old) target) ((A.Rack.model from.old).flags node) }
-    ensures source { A.Rack.model from.new ≡ after_move_from (A.Rack.model from.old) node (B.Rack.model to.old) target }
-    ensures sink { B.Rack.model to.new ≡ after_move_to (A.Rack.model from.old) node (B.Rack.model to.old) target }
-    ensures stays { A.Rack.kept from.old from.new × B.Rack.kept to.old to.new }
+    ensures answer { result ≡ drawn (movable (A.model from.old) node (B.model to.old) target) ((A.model from.old).flags node) }
+    ensures source { A.model from.new ≡ after_move_from (A.model from.old) node (B.model to.old) target }
+    ensures sink { B.model to.new ≡ after_move_to (A.model from.old) node (B.model to.old) target }
+    ensures stays { A.kept from.old from.new × B.kept to.old to.new }
 {
     let places = from.places();
     if node >= from.nodes() || target >= to.nodes() || places != to.places() {

@@ -1,5 +1,6 @@
 // A rack on lent bytes: the check of an image, the rack over it, and work on whole nodes of lent images.
 #![tactic(auto)]
+
 pub mod checks;
 pub mod image;
 pub mod lent_images;

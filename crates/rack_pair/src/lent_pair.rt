@@ -14,11 +14,11 @@ pub struct LentPair<'a, 'b, A, B> {
 }
 
 impl<'a, 'b, A: Rack, B: Rack> Rack for LentPair<'a, 'b, A, B> {
-    ghost model = { λ s. paired (A.Rack.model s.first.now) (B.Rack.model s.second.now) };
+    ghost model = { λ s. paired (A.model s.first.now) (B.model s.second.now) };
 
-    ghost kept = { λ s t. (t.first.ghost_name ≡ s.first.ghost_name) × (t.second.ghost_name ≡ s.second.ghost_name) × A.Rack.kept s.first.now t.first.now × B.Rack.kept s.second.now t.second.now };
+    ghost kept = { λ s t. (t.first.ghost_name ≡ s.first.ghost_name) × (t.second.ghost_name ≡ s.second.ghost_name) × A.kept s.first.now t.first.now × B.kept s.second.now t.second.now };
 
-    ghost keeping = { record { same = λ x. (refl, refl, A.Rack.keeping.same x.first.now, B.Rack.keeping.same x.second.now); joined = λ x y z p q. (q.0 ∙ p.0, q.1 ∙ p.1, A.Rack.keeping.joined _ _ _ p.2 q.2, B.Rack.keeping.joined _ _ _ p.3 q.3); same_nodes = λ x y p. ap₂ (λ m n. min 16 (m + n)) (A.Rack.keeping.same_nodes _ _ p.2) (B.Rack.keeping.same_nodes _ _ p.3); same_places = λ x y p. ap₂ min (A.Rack.keeping.same_places _ _ p.2) (B.Rack.keeping.same_places _ _ p.3) } };
+    ghost keeping = { record { same = λ x. (refl, refl, A.keeping.same x.first.now, B.keeping.same x.second.now); joined = λ x y z p q. (q.0 ∙ p.0, q.1 ∙ p.1, A.keeping.joined _ _ _ p.2 q.2, B.keeping.joined _ _ _ p.3 q.3); same_nodes = λ x y p. ap₂ (λ m n. min 16 (m + n)) (A.keeping.same_nodes _ _ p.2) (B.keeping.same_nodes _ _ p.3); same_places = λ x y p. ap₂ min (A.keeping.same_places _ _ p.2) (B.keeping.same_places _ _ p.3) } };
 
     fn nodes(&self) -> usize {
         rooms::nodes(&*self.first, &*self.second)

@@ -17,9 +17,9 @@ pub fn fill_pair<A: Rack, B: Rack>(
     node: usize,
     words: &[u16],
 ) -> Result<(), Refusal>
-    ensures answer { result ≡ done (sized (paired (A.Rack.model first.old) (B.Rack.model second.old)) node (length words.now)) }
-    ensures after { paired (A.Rack.model first.new) (B.Rack.model second.new) ≡ after_fill (paired (A.Rack.model first.old) (B.Rack.model second.old)) node words.now }
-    ensures stays { A.Rack.kept first.old first.new × B.Rack.kept second.old second.new }
+    ensures answer { result ≡ done (sized (paired (A.model first.old) (B.model second.old)) node (length words.now)) }
+    ensures after { paired (A.model first.new) (B.model second.new) ≡ after_fill (paired (A.model first.old) (B.model second.old)) node words.now }
+    ensures stays { A.kept first.old first.new × B.kept second.old second.new }
 {
     let mut pair = LentPair { first, second };
     fill_node(&mut pair, node, words)

@@ -1,5 +1,6 @@
 // Two racks as one: held by value, or lent.
 #![tactic(auto)]
+
 pub mod lent_pair;
 pub mod lent_rooms;
 pub mod pair;

@@ -24,7 +24,7 @@ pub struct NotJoined<A, B> {
 
 // The two racks as one, unless their places differ or they have more than 16 nodes.
 pub fn join<A: Rack, B: Rack>(first: A, second: B) -> Result<PairRack<A, B>, NotJoined<A, B>>
-    ensures { MatchResult result (λ t. (matching (A.Rack.model first) (B.Rack.model second) ≡ true) × (t.first ≡ first) × (t.second ≡ second)) (λ e. (matching (A.Rack.model first) (B.Rack.model second) ≡ false) × (e.why ≡ Size) × (e.first ≡ first) × (e.second ≡ second)) }
+    ensures { MatchResult result (λ t. (matching (A.model first) (B.model second) ≡ true) × (t.first ≡ first) × (t.second ≡ second)) (λ e. (matching (A.model first) (B.model second) ≡ false) × (e.why ≡ Size) × (e.first ≡ first) × (e.second ≡ second)) }
 {
     let n = first.nodes();
     let m = second.nodes();
@@ -39,11 +39,11 @@ pub fn join<A: Rack, B: Rack>(first: A, second: B) -> Result<PairRack<A, B>, Not
 }
 
 impl<A: Rack, B: Rack> Rack for PairRack<A, B> {
-    ghost model = { λ s. paired (A.Rack.model s.first) (B.Rack.model s.second) };
+    ghost model = { λ s. paired (A.model s.first) (B.model s.second) };
 
-    ghost kept = { λ s t. A.Rack.kept s.first t.first × B.Rack.kept s.second t.second };
+    ghost kept = { λ s t. A.kept s.first t.first × B.kept s.second t.second };
 
-    ghost keeping = { record { same = λ x. (A.Rack.keeping.same x.first, B.Rack.keeping.same x.second); joined = λ x y z p q. (A.Rack.keeping.joined _ _ _ p.0 q.0, B.Rack.keeping.joined _ _ _ p.1 q.1); same_nodes = λ x y p. ap₂ (λ m n. min 16 (m + n)) (A.Rack.keeping.same_nodes _ _ p.0) (B.Rack.keeping.same_nodes _ _ p.1); same_places = λ x y p. ap₂ min (A.Rack.keeping.same_places _ _ p.0) (B.Rack.keeping.same_places _ _ p.1) } };
+    ghost keeping = { record { same = λ x. (A.keeping.same x.first, B.keeping.same x.second); joined = λ x y z p q. (A.keeping.joined _ _ _ p.0 q.0, B.keeping.joined _ _ _ p.1 q.1); same_nodes = λ x y p. ap₂ (λ m n. min 16 (m + n)) (A.keeping.same_nodes _ _ p.0) (B.keeping.same_nodes _ _ p.1); same_places = λ x y p. ap₂ min (A.keeping.same_places _ _ p.0) (B.keeping.same_places _ _ p.1) } };
 
     fn nodes(&self) -> usize {
         rooms::nodes(&self.first, &self.second)

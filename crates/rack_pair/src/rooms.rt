@@ -8,7 +8,7 @@ use rack::Rack;
 use refusal::Refusal;
 
 pub fn nodes<A: Rack, B: Rack>(first: &A, second: &B) -> usize
-    ensures { result ≡ (paired (A.Rack.model first.now) (B.Rack.model second.now)).nodes }
+    ensures { result ≡ (paired (A.model first.now) (B.model second.now)).nodes }
 {
     let n = first.nodes();
     let m = second.nodes();
@@ -16,14 +16,14 @@ pub fn nodes<A: Rack, B: Rack>(first: &A, second: &B) -> usize
 }
 
 pub fn places<A: Rack, B: Rack>(first: &A, second: &B) -> usize
-    ensures { result ≡ (paired (A.Rack.model first.now) (B.Rack.model second.now)).places }
+    ensures { result ≡ (paired (A.model first.now) (B.model second.now)).places }
 {
     first.places().min(second.places())
 }
 
 // The room that a node is in, and its number there.
 fn seat_of<A: Rack, B: Rack>(first: &A, second: &B, node: usize) -> Seat
-    ensures { Placed (A.Rack.model first.now) (B.Rack.model second.now) node result }
+    ensures { Placed (A.model first.now) (B.model second.now) node result }
 {
     let n = first.nodes();
     if node >= nodes(first, second) {
@@ -36,7 +36,7 @@ fn seat_of<A: Rack, B: Rack>(first: &A, second: &B, node: usize) -> Seat
 }
 
 pub fn stands<A: Rack, B: Rack>(first: &A, second: &B, node: usize) -> bool
-    ensures { result ≡ standing (paired (A.Rack.model first.now) (B.Rack.model second.now)) node }
+    ensures { result ≡ standing (paired (A.model first.now) (B.model second.now)) node }
 {
     match seat_of(first, second, node) {
         Seat::First(i) => first.stands(i),
@@ -46,7 +46,7 @@ pub fn stands<A: Rack, B: Rack>(first: &A, second: &B, node: usize) -> bool
 }
 
 pub fn meter<A: Rack, B: Rack>(first: &A, second: &B, node: usize) -> u64
-    ensures { result ≡ metered (paired (A.Rack.model first.now) (B.Rack.model second.now)) node }
+    ensures { result ≡ metered (paired (A.model first.now) (B.model second.now)) node }
 {
     match seat_of(first, second, node) {
         Seat::First(i) => first.meter(i),
@@ -61,9 +61,9 @@ pub fn get<A: Rack, B: Rack>(
     node: usize,
     place: usize,
 ) -> Result<u16, Refusal>
-    ensures answer { result ≡ got (paired (A.Rack.model first.old) (B.Rack.model second.old)) node place }
-    ensures after { paired (A.Rack.model first.new) (B.Rack.model second.new) ≡ after_get (paired (A.Rack.model first.old) (B.Rack.model second.old)) node place }
-    ensures stays { A.Rack.kept first.old first.new × B.Rack.kept second.old second.new }
+    ensures answer { result ≡ got (paired (A.model first.old) (B.model second.old)) node place }
+    ensures after { paired (A.model first.new) (B.model second.new) ≡ after_get (paired (A.model first.old) (B.model second.old)) node place }
+    ensures stays { A.kept first.old first.new × B.kept second.old second.new }
 {
     if place >= places(first, second) {
         return Err(Refusal::NoSuchPlace);
@@ -82,9 +82,9 @@ pub fn put<A: Rack, B: Rack>(
     place: usize,
     word: u16,
 ) -> Result<(), Refusal>
-    ensures answer { result ≡ done (within (paired (A.Rack.model first.old) (B.Rack.model second.old)) node place) }
-    ensures after { paired (A.Rack.model first.new) (B.Rack.model second.new) ≡ after_put (paired (A.Rack.model first.old) (B.Rack.model second.old)) node place word }
-    ensures stays { A.Rack.kept first.old first.new × B.Rack.kept second.old second.new }
+    ensures answer { result ≡ done (within (paired (A.model first.old) (B.model second.old)) node place) }
+    ensures after { paired (A.model first.new) (B.model second.new) ≡ after_put (paired (A.model first.old) (B.model second.old)) node place word }
+    ensures stays { A.kept first.old first.new × B.kept second.old second.new }
 {
     if place >= places(first, second) {
         return Err(Refusal::NoSuchPlace);
@@ -97,9 +97,9 @@ pub fn put<A: Rack, B: Rack>(
 }
 
 pub fn take_out<A: Rack, B: Rack>(first: &mut A, second: &mut B, node: usize) -> Result<(), Refusal>
-    ensures answer { result ≡ done (node_within (paired (A.Rack.model first.old) (B.Rack.model second.old)) node) }
-    ensures after { paired (A.Rack.model first.new) (B.Rack.model second.new) ≡ after_flag (paired (A.Rack.model first.old) (B.Rack.model second.old)) node false }
-    ensures stays { A.Rack.kept first.old first.new × B.Rack.kept second.old second.new }
+    ensures answer { result ≡ done (node_within (paired (A.model first.old) (B.model second.old)) node) }
+    ensures after { paired (A.model first.new) (B.model second.new) ≡ after_flag (paired (A.model first.old) (B.model second.old)) node false }
+    ensures stays { A.kept first.old first.new × B.kept second.old second.new }
 {
     match seat_of(first, second, node) {
         Seat::First(i) => first.take_out(i),
@@ -109,9 +109,9 @@ pub fn take_out<A: Rack, B: Rack>(first: &mut A, second: &mut B, node: usize) ->
 }
 
 pub fn raise<A: Rack, B: Rack>(first: &mut A, second: &mut B, node: usize) -> Result<(), Refusal>
-    ensures answer { result ≡ done (node_within (paired (A.Rack.model first.old) (B.Rack.model second.old)) node) }
-    ensures after { paired (A.Rack.model first.new) (B.Rack.model second.new) ≡ after_flag (paired (A.Rack.model first.old) (B.Rack.model second.old)) node true }
-    ensures stays { A.Rack.kept first.old first.new × B.Rack.kept second.old second.new }
+    ensures answer { result ≡ done (node_within (paired (A.model first.old) (B.model second.old)) node) }
+    ensures after { paired (A.model first.new) (B.model second.new) ≡ after_flag (paired (A.model first.old) (B.model second.old)) node true }
+    ensures stays { A.kept first.old first.new × B.kept second.old second.new }
 {
     match seat_of(first, second, node) {
         Seat::First(i) => first.raise(i),

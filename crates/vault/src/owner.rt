@@ -26,7 +26,7 @@ pub struct NotOpened<R> {
 impl<F: Field + Drop, R: Rack> Vault<F, R> {
     // Opens a vault on a rack of the shape's counts; it changes no word.
     pub fn open(shape: Shape, field: F, rack: R) -> Result<Vault<F, R>, NotOpened<R>>
-        ensures { MatchResult result (λ v. (wrong_size shape.q shape.t (R.Rack.model rack) ≡ false) × (v.shape ≡ shape) × (v.rack ≡ rack)) (λ e. (wrong_size shape.q shape.t (R.Rack.model rack) ≡ true) × (e.why ≡ Size) × (e.rack ≡ rack)) }
+        ensures { MatchResult result (λ v. (wrong_size shape.q shape.t (R.model rack) ≡ false) × (v.shape ≡ shape) × (v.rack ≡ rack)) (λ e. (wrong_size shape.q shape.t (R.model rack) ≡ true) × (e.why ≡ Size) × (e.rack ≡ rack)) }
     {
         match fits(shape, &rack) {
             Ok(()) => Ok(Vault { shape, field, rack }),

@@ -16,8 +16,8 @@ pub fn alter<F: Field, R: Rack>(
     place: usize,
     word: u16,
 ) -> Result<Answer, Refusal>
-    ensures call { Alter F.Field.arith shape.q shape.t (R.Rack.model rack.old) node place word result (R.Rack.model rack.new) }
-    ensures stays { R.Rack.kept rack.old rack.new }
+    ensures call { Alter F.arith shape.q shape.t (R.model rack.old) node place word result (R.model rack.new) }
+    ensures stays { R.kept rack.old rack.new }
 {
     fits(shape, rack)?;
     if u32::from(word) >= F::codes() {

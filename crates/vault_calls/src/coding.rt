@@ -21,9 +21,9 @@ pub fn store<F: Field, R: Rack>(
     message: &[u16],
     space: &mut [u16],
 ) -> Result<Answer, Refusal>
-    ensures call { Store F.Field.arith shape.q shape.t (R.Rack.model rack.old) message.now (length space.old) result (R.Rack.model rack.new) }
+    ensures call { Store F.arith shape.q shape.t (R.model rack.old) message.now (length space.old) result (R.model rack.new) }
     ensures space { Space (shape.q * shape.t * shape.q ^ shape.t) result space.old space.new }
-    ensures stays { R.Rack.kept rack.old rack.new }
+    ensures stays { R.kept rack.old rack.new }
 {
     fits(shape, rack)?;
     encode::<F>(shape, message, space)?;
@@ -41,9 +41,9 @@ fn repair_node<F: Field, R: Rack>(
     node: usize,
     space: &mut [u16],
 ) -> Result<Answer, Refusal>
-    ensures call { Repair F.Field.arith shape.q shape.t (R.Rack.model rack.old) node (length space.old) result (R.Rack.model rack.new) }
+    ensures call { Repair F.arith shape.q shape.t (R.model rack.old) node (length space.old) result (R.model rack.new) }
     ensures space { Space (shape.q * shape.t * shape.q ^ shape.t) result space.old space.new }
-    ensures stays { R.Rack.kept rack.old rack.new }
+    ensures stays { R.kept rack.old rack.new }
 {
     fits(shape, rack)?;
     roomy(shape, space)?;
@@ -72,10 +72,10 @@ pub fn repair<F: Field, R: Rack>(
     node: usize,
     space: &mut [u16],
 ) -> Result<Answer, Refusal>
-    ensures call { Repair F.Field.arith shape.q shape.t (R.Rack.model rack.old) node (length space.old) result (R.Rack.model rack.new) }
-    ensures history { RepairPromise F.Field.arith shape.q shape.t (R.Rack.model rack.old) node (length space.old) result (R.Rack.model rack.new) }
+    ensures call { Repair F.arith shape.q shape.t (R.model rack.old) node (length space.old) result (R.model rack.new) }
+    ensures history { RepairPromise F.arith shape.q shape.t (R.model rack.old) node (length space.old) result (R.model rack.new) }
     ensures space { Space (shape.q * shape.t * shape.q ^ shape.t) result space.old space.new }
-    ensures stays { R.Rack.kept rack.old rack.new }
+    ensures stays { R.kept rack.old rack.new }
 {
     repair_node::<F, R>(shape, rack, node, space)
 }
@@ -86,9 +86,9 @@ fn recover_nodes<F: Field, R: Rack>(
     rack: &mut R,
     space: &mut [u16],
 ) -> Result<Answer, Refusal>
-    ensures call { Recover F.Field.arith shape.q shape.t (R.Rack.model rack.old) (length space.old) result (R.Rack.model rack.new) }
+    ensures call { Recover F.arith shape.q shape.t (R.model rack.old) (length space.old) result (R.model rack.new) }
     ensures space { Space (shape.q * shape.t * shape.q ^ shape.t) result space.old space.new }
-    ensures stays { R.Rack.kept rack.old rack.new }
+    ensures stays { R.kept rack.old rack.new }
 {
     fits(shape, rack)?;
     roomy(shape, space)?;
@@ -111,10 +111,10 @@ pub fn recover<F: Field, R: Rack>(
     rack: &mut R,
     space: &mut [u16],
 ) -> Result<Answer, Refusal>
-    ensures call { Recover F.Field.arith shape.q shape.t (R.Rack.model rack.old) (length space.old) result (R.Rack.model rack.new) }
-    ensures history { RecoverPromise F.Field.arith shape.q shape.t (R.Rack.model rack.old) (length space.old) result (R.Rack.model rack.new) }
+    ensures call { Recover F.arith shape.q shape.t (R.model rack.old) (length space.old) result (R.model rack.new) }
+    ensures history { RecoverPromise F.arith shape.q shape.t (R.model rack.old) (length space.old) result (R.model rack.new) }
     ensures space { Space (shape.q * shape.t * shape.q ^ shape.t) result space.old space.new }
-    ensures stays { R.Rack.kept rack.old rack.new }
+    ensures stays { R.kept rack.old rack.new }
 {
     recover_nodes::<F, R>(shape, rack, space)
 }

@@ -36,14 +36,14 @@ fn draw_node<R: Rack>(
     selection: Selection,
     space: &mut [u16],
 ) -> Result<(), Refusal>
-    requires sized { wrong_size shape.q shape.t (R.Rack.model rack.old) ≡ false }
+    requires sized { wrong_size shape.q shape.t (R.model rack.old) ≡ false }
     requires node { node < shape.q * shape.t }
-    requires stands { (R.Rack.model rack.old).flags node ≡ true }
+    requires stands { (R.model rack.old).flags node ≡ true }
     requires room { shape.q * shape.t * shape.q ^ shape.t ≤ length space.old }
     ensures accepted { result ≡ Ok tt }
-    ensures after { R.Rack.model rack.new ≡ with_draws (R.Rack.model rack.old) node (count (takes shape.q selection) (shape.q ^ shape.t)) }
-    ensures space { Gathered (shape.q ^ shape.t) (λ j p. (j == node) && takes shape.q selection p) (R.Rack.model rack.old).words space.old space.new }
-    ensures stays { R.Rack.kept rack.old rack.new }
+    ensures after { R.model rack.new ≡ with_draws (R.model rack.old) node (count (takes shape.q selection) (shape.q ^ shape.t)) }
+    ensures space { Gathered (shape.q ^ shape.t) (λ j p. (j == node) && takes shape.q selection p) (R.model rack.old).words space.old space.new }
+    ensures stays { R.kept rack.old rack.new }
 {
     let places = shape.places();
     for p in 0..places {
@@ -62,12 +62,12 @@ pub fn draw<R: Rack>(
     selection: Selection,
     space: &mut [u16],
 ) -> Result<(), Refusal>
-    requires sized { wrong_size shape.q shape.t (R.Rack.model rack.old) ≡ false }
+    requires sized { wrong_size shape.q shape.t (R.model rack.old) ≡ false }
     requires room { shape.q * shape.t * shape.q ^ shape.t ≤ length space.old }
     ensures accepted { result ≡ Ok tt }
-    ensures after { R.Rack.model rack.new ≡ drawn_below (R.Rack.model rack.old) (shape.q * shape.t) (count (takes shape.q selection) (shape.q ^ shape.t)) }
-    ensures space { Gathered (shape.q ^ shape.t) (λ j p. (nat_lt j (shape.q * shape.t) && (R.Rack.model rack.old).flags j) && takes shape.q selection p) (R.Rack.model rack.old).words space.old space.new }
-    ensures stays { R.Rack.kept rack.old rack.new }
+    ensures after { R.model rack.new ≡ drawn_below (R.model rack.old) (shape.q * shape.t) (count (takes shape.q selection) (shape.q ^ shape.t)) }
+    ensures space { Gathered (shape.q ^ shape.t) (λ j p. (nat_lt j (shape.q * shape.t) && (R.model rack.old).flags j) && takes shape.q selection p) (R.model rack.old).words space.old space.new }
+    ensures stays { R.kept rack.old rack.new }
 {
     for i in 0..shape.nodes() {
         if rack.stands(i) {

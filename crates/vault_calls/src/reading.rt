@@ -16,7 +16,7 @@ use shape::Shape;
 // Whether the nodes of the words from a start on stand.
 fn all_stand<R: Rack>(shape: Shape, rack: &R, start: usize, len: usize) -> bool
     requires { start + len ≤ shape.q * (shape.t - 1) * shape.q ^ shape.t }
-    ensures { result ≡ every (λ j. standing (R.Rack.model rack.now) ((start + j) / shape.q ^ shape.t)) len }
+    ensures { result ≡ every (λ j. standing (R.model rack.now) ((start + j) / shape.q ^ shape.t)) len }
 {
     let places = shape.places();
     for j in 0..len {
@@ -34,13 +34,13 @@ fn read_words<R: Rack>(
     start: usize,
     buffer: &mut [u16],
 ) -> Result<(), Refusal>
-    requires sized { wrong_size shape.q shape.t (R.Rack.model rack.old) ≡ false }
+    requires sized { wrong_size shape.q shape.t (R.model rack.old) ≡ false }
     requires inside { start + length buffer.old ≤ shape.q * (shape.t - 1) * shape.q ^ shape.t }
-    requires stand { every (λ j. (R.Rack.model rack.old).flags ((start + j) / shape.q ^ shape.t)) (length buffer.old) ≡ true }
+    requires stand { every (λ j. (R.model rack.old).flags ((start + j) / shape.q ^ shape.t)) (length buffer.old) ≡ true }
     ensures accepted { result ≡ Ok tt }
-    ensures after { R.Rack.model rack.new ≡ read_drawn (R.Rack.model rack.old) start (shape.q ^ shape.t) (length buffer.old) }
-    ensures words { (j : ℕ) → j < length buffer.old → slice_index buffer.new j ≡ held shape.q shape.t (R.Rack.model rack.old) (start + j) }
-    ensures stays { R.Rack.kept rack.old rack.new }
+    ensures after { R.model rack.new ≡ read_drawn (R.model rack.old) start (shape.q ^ shape.t) (length buffer.old) }
+    ensures words { (j : ℕ) → j < length buffer.old → slice_index buffer.new j ≡ held shape.q shape.t (R.model rack.old) (start + j) }
+    ensures stays { R.kept rack.old rack.new }
 {
     let places = shape.places();
     let len = buffer.len();
@@ -57,8 +57,8 @@ fn read_message<R: Rack>(
     start: usize,
     buffer: &mut [u16],
 ) -> Result<Answer, Refusal>
-    ensures call { Read shape.q shape.t (R.Rack.model rack.old) start buffer.old result (R.Rack.model rack.new) buffer.new }
-    ensures stays { R.Rack.kept rack.old rack.new }
+    ensures call { Read shape.q shape.t (R.model rack.old) start buffer.old result (R.model rack.new) buffer.new }
+    ensures stays { R.kept rack.old rack.new }
 {
     fits(shape, rack)?;
     let len = buffer.len();
@@ -83,9 +83,9 @@ pub fn read<F: Field, R: Rack>(
     start: usize,
     buffer: &mut [u16],
 ) -> Result<Answer, Refusal>
-    ensures call { Read shape.q shape.t (R.Rack.model rack.old) start buffer.old result (R.Rack.model rack.new) buffer.new }
-    ensures history { ReadPromise F.Field.arith shape.q shape.t (R.Rack.model rack.old) start result buffer.new }
-    ensures stays { R.Rack.kept rack.old rack.new }
+    ensures call { Read shape.q shape.t (R.model rack.old) start buffer.old result (R.model rack.new) buffer.new }
+    ensures history { ReadPromise F.arith shape.q shape.t (R.model rack.old) start result buffer.new }
+    ensures stays { R.kept rack.old rack.new }
 {
     read_message(shape, rack, start, buffer)
 }

@@ -12,7 +12,7 @@ use shape::{OutageList, Shape};
 
 // Whether the rack's counts are the shape's.
 pub fn fits<R: Rack>(shape: Shape, rack: &R) -> Result<(), Refusal>
-    ensures { MatchResult result (λ _. wrong_size shape.q shape.t (R.Rack.model rack.now) ≡ false) (λ e. (wrong_size shape.q shape.t (R.Rack.model rack.now) ≡ true) × (e ≡ Size)) }
+    ensures { MatchResult result (λ _. wrong_size shape.q shape.t (R.model rack.now) ≡ false) (λ e. (wrong_size shape.q shape.t (R.model rack.now) ≡ true) × (e ≡ Size)) }
 {
     if rack.nodes() == shape.nodes() && rack.places() == shape.places() {
         Ok(())
@@ -35,7 +35,7 @@ pub fn roomy(shape: Shape, space: &[u16]) -> Result<(), Refusal>
 // The nodes that are out.
 pub fn outages<R: Rack>(shape: Shape, rack: &R) -> OutageList
     ensures count { result.count ≡ shape.q * shape.t }
-    ensures list { list_of result ≡ listed (λ i. not (standing (R.Rack.model rack.now) i)) (shape.q * shape.t) }
+    ensures list { list_of result ≡ listed (λ i. not (standing (R.model rack.now) i)) (shape.q * shape.t) }
 {
     let mut out = OutageList::none(shape);
     for i in 0..shape.nodes() {

@@ -12,7 +12,7 @@ use shape::{OutageList, Shape};
 
 // The nodes that are out.
 pub fn tell<R: Rack>(shape: Shape, rack: &R) -> Result<OutageList, Refusal>
-    ensures { MatchResult result (λ l. (wrong_size shape.q shape.t (R.Rack.model rack.now) ≡ false) × (l.count ≡ shape.q * shape.t) × (list_of l ≡ out_nodes shape.q shape.t (R.Rack.model rack.now))) (λ e. (wrong_size shape.q shape.t (R.Rack.model rack.now) ≡ true) × (e ≡ Size)) }
+    ensures { MatchResult result (λ l. (wrong_size shape.q shape.t (R.model rack.now) ≡ false) × (l.count ≡ shape.q * shape.t) × (list_of l ≡ out_nodes shape.q shape.t (R.model rack.now))) (λ e. (wrong_size shape.q shape.t (R.model rack.now) ≡ true) × (e ≡ Size)) }
 {
     fits(shape, rack)?;
     Ok(outages(shape, rack))
@@ -20,8 +20,8 @@ pub fn tell<R: Rack>(shape: Shape, rack: &R) -> Result<OutageList, Refusal>
 
 // Makes a standing node out.
 pub fn drop_node<R: Rack>(shape: Shape, rack: &mut R, node: usize) -> Result<Answer, Refusal>
-    ensures call { Drop shape.q shape.t (R.Rack.model rack.old) node result (R.Rack.model rack.new) }
-    ensures stays { R.Rack.kept rack.old rack.new }
+    ensures call { Drop shape.q shape.t (R.model rack.old) node result (R.model rack.new) }
+    ensures stays { R.kept rack.old rack.new }
 {
     fits(shape, rack)?;
     if node >= shape.nodes() {

@@ -18,12 +18,12 @@ pub fn write_node<R: Rack>(
     node: usize,
     space: &[u16],
 ) -> Result<(), Refusal>
-    requires sized { wrong_size shape.q shape.t (R.Rack.model rack.old) ≡ false }
+    requires sized { wrong_size shape.q shape.t (R.model rack.old) ≡ false }
     requires node { node < shape.q * shape.t }
     requires room { shape.q * shape.t * shape.q ^ shape.t ≤ length space.now }
     ensures accepted { result ≡ Ok tt }
-    ensures after { R.Rack.model rack.new ≡ filled (R.Rack.model rack.old) node (laid (shape.q ^ shape.t) space.now node) }
-    ensures stays { R.Rack.kept rack.old rack.new }
+    ensures after { R.model rack.new ≡ filled (R.model rack.old) node (laid (shape.q ^ shape.t) space.now node) }
+    ensures stays { R.kept rack.old rack.new }
 {
     let places = shape.places();
     let start = node * places;
@@ -37,11 +37,11 @@ pub fn write_listed<R: Rack>(
     list: &OutageList,
     space: &[u16],
 ) -> Result<(), Refusal>
-    requires sized { wrong_size shape.q shape.t (R.Rack.model rack.old) ≡ false }
+    requires sized { wrong_size shape.q shape.t (R.model rack.old) ≡ false }
     requires room { shape.q * shape.t * shape.q ^ shape.t ≤ length space.now }
     ensures accepted { result ≡ Ok tt }
-    ensures after { R.Rack.model rack.new ≡ written_below (R.Rack.model rack.old) (among (list_of list.now)) (laid (shape.q ^ shape.t) space.now) (shape.q * shape.t) }
-    ensures stays { R.Rack.kept rack.old rack.new }
+    ensures after { R.model rack.new ≡ written_below (R.model rack.old) (among (list_of list.now)) (laid (shape.q ^ shape.t) space.now) (shape.q * shape.t) }
+    ensures stays { R.kept rack.old rack.new }
 {
     for i in 0..shape.nodes() {
         if list.contains(i) {

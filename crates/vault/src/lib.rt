@@ -1,5 +1,6 @@
 // The vault: one message, coded over the nodes of one rack.
 #![tactic(auto)]
+
 mod methods;
 pub mod owner;
 

@@ -1,5 +1,6 @@
 // The calls of a vault as functions: a shape, a field and a rack that is lent to each call.
 #![tactic(auto)]
+
 pub mod altering;
 pub mod answer;
 pub mod coding;

@@ -1,5 +1,6 @@
 // The worked examples hold of the definitions.
 #![tactic(auto)]
+
 ghost use Rattle.std.specs.Prelude.{◌≡◌, length};
 ghost use Rattle.worked.specs.Table.{table, AllHold};
 

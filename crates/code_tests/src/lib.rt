@@ -1,5 +1,6 @@
 // Tests of fields, shapes and the code, by running them.
 #![tactic(auto)]
+
 #[cfg(test)]
 mod arrays;
 #[cfg(test)]

@@ -1,5 +1,6 @@
 // The console: a line in, the bytes printed out.
 #![tactic(auto)]
+
 mod calls;
 mod input;
 mod session;

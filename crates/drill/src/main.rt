@@ -1,5 +1,6 @@
 // Runs examples of a vault of two rows and two columns over the byte field, on every kind of rack, and prints a line for each.
 #![tactic(auto)]
+
 use anyhow::anyhow;
 use examples::examples;
 use field::ByteField;

@@ -1,5 +1,6 @@
 // Tests of racks, by running them.
 #![tactic(auto)]
+
 #[cfg(test)]
 mod images;
 #[cfg(test)]

@@ -1,5 +1,6 @@
 // Finite fields whose elements are numbered by codes.
 #![tactic(auto)]
+
 ghost use Rattle.std.specs.Prelude.{◌≡◌, ◌<◌, ◌≤◌, MatchResult};
 ghost use Rattle.field.specs.Field.{Arith, Laws};
 ghost use Rattle.refusal.specs.declared.reason.Refusal.TheVariants.{NoCode};

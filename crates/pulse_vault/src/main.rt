@@ -1,5 +1,6 @@
 // Reads commands from standard input and prints what a vault on a table rack answers.
 #![tactic(auto)]
+
 use console::{LIMIT, transcript};
 use std::io::Read;
 

@@ -1,7 +1,7 @@
 // An image of 4 nodes with 4 places, and where it is malformed.
 use rack::Rack;
-use rack_image::{ImageRack, check_image, check_images, fill_image, move_between_images};
-use rack_pair::fill_rooms;
+use rack_image::{ImageRack, check_image, check_images};
+use rack_tools::{fill_image, fill_rooms, move_between_images};
 use refusal::{Cause, Fault, Refusal};
 use std::process::Abort;
 

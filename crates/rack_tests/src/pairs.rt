@@ -1,7 +1,8 @@
 // Pairs of any racks.
-use rack::{Rack, TableRack, copy_node, fill_node};
+use rack::{Rack, TableRack};
 use rack_image::ImageRack;
 use rack_pair::join;
+use rack_tools::{copy_node, fill_node};
 use refusal::Refusal;
 use std::process::Abort;
 use std::test::Fail;

@@ -1,5 +1,6 @@
 // Replays recorded streams: for each, how many of its answers agree with those that were recorded.
 #![tactic(auto)]
+
 use console::transcript;
 use std::fs;
 

@@ -5,3 +5,4 @@ mod methods;
 pub mod owner;
 
 pub use owner::{NotOpened, Vault};
+pub use vault_calls::{Answer, altering, answer, coding, reading, small};

@@ -5,7 +5,8 @@ usage: python3 tools/respell.py        at the top of the repository; files are r
 
 A name is one that a file of specs/ or a file right in proofs/ declares (definitions, lemmas, constructors, fields). `all-codes` becomes
 `all_codes`, `Only-one` becomes `OnlyOne`, and a word in small letters whose own type ends in `Type 0` becomes a type's name in camel case.
-Names that Rattle makes (goals, steps) are declared in neither, and keep their dashes. Comments are left alone.
+Names that Rattle makes (goals, steps) are declared in neither, and keep their dashes. Comments are left alone. Variables of lemmas are
+listed below (LOCAL). In clauses a bound's ghost member is spelled by its parameter alone, as `F.arith`.
 """
 import collections
 import os
@@ -14,6 +15,12 @@ import sys
 
 TOKEN = re.compile(r"[^\s(){}\[\];,.:«»\"λ◌⌜⌝`]+")
 DECLARED = re.compile(r"^[ \t]*(?:(?:pub|abbrev|unfoldable|data|record|ruleset)[ \t]+)*([^\s(){}\[\];,.:«»\"λ◌]+)(?:[ \t]+[({][^\n]*?)?[ \t]*:[ \t\n]", re.M)
+
+LOCAL = """a-is all-drawn b-is back-plane changed-since codes-before column-of counts-x counts-y d-is d-zero ends-x ends-y few-x few-y first-is
+got-all got-it held-y helper-is helps-plane is-x' lent-x lent-y no-error no-help not-all prime-power rest-is row-good same-stands same-words
+solves-of solves-y stands-in stays-x stays-y was-a was-b w-is y-is z-is""".split()
+MEMBER = re.compile(r"\b([A-Z])\.(?:Rack|Field)\.(model|kept|keeping|arith|lawful)\b")
+BARE = re.compile(r"(?<![.\w])(model|kept) (rack\.(?:old|new|now))")
 
 
 def files(kinds):
@@ -74,6 +81,7 @@ def main():
     by_new = collections.defaultdict(set)
     for a, b in new.items():
         by_new[b].add(a)
+    local = {n: n.replace("-", "_") for n in LOCAL}
     clash = {b: a for b, a in by_new.items() if len(a) > 1}
     if clash:
         sys.exit(f"names that fall together: {clash}")
@@ -95,7 +103,7 @@ def main():
             def turn(m):
                 word = m[0]
                 if word not in new:
-                    return word
+                    return local.get(word, word) if kind == "src" or own(path, kind) else word
                 # a step or a fact that Rattle names, as c.draw-after, is no name of ours
                 start = m.start()
                 if start and code[start - 1] == "." and re.search(r"(?:^|[^\w'-])(?:c|w|l|goal|v)(?:\.[^\s(){}\[\];,:]+)*\.$", code[:start]) and kind == "proofs" and not own(path, kind):
@@ -103,7 +111,10 @@ def main():
                     return word
                 return new[word]
 
-            out.append(TOKEN.sub(turn, code) + comment)
+            code = TOKEN.sub(turn, code)
+            if kind == "src":
+                code = BARE.sub(r"R.\1 \2", MEMBER.sub(r"\1.\2", code))
+            out.append(code + comment)
         after = "".join(out)
         if after != before:
             with open(path, "w", encoding="utf-8") as f:

@@ -87,7 +87,7 @@ module _ {E : Type 0} (f : Arith E) (laws : Laws f) {q t : ℕ} (s : Shaped q t)
     -- a plane of the score
     pub node_more : (place : ℕ) (A A' A'' : ℕ → ℕ → E) (a : E) → place < q ^ t → score q t S place ≡ level → NodeTurned f q t S level node place A A'
         → a ≡ turn_now f q t S A' node place → Wrote (q ^ t) node place a A' A'' → NodeTurned f q t S level node (place + 1) A A''
-    node_more place A A' A'' a lplace is inv a-is wrote = record { made = λ p lp k l. at p lp k l (cases_eq p place); kept = λ i p li lp h. stays i p li lp h }
+    node_more place A A' A'' a lplace is inv a_is wrote = record { made = λ p lp k l. at p lp k l (cases_eq p place); kept = λ i p li lp h. stays i p li lp h }
       where
         c : ℕ
         c = companion_node q node place
@@ -101,7 +101,7 @@ module _ {E : Type 0} (f : Arith E) (laws : Laws f) {q t : ℕ} (s : Shaped q t)
             (λ o. inv.kept c d (companion_bound q (rows_positive s) node place t ln) (companion_place_bound q (rows_positive s) node place t ln lplace) (inl (companion_other node place o)))
 
         at : (p : ℕ) → p < q ^ t → score q t S p ≡ level → p < place + 1 → (p ≡ place) ⊎ (p ≡ place → ⊥) → A'' node p ≡ turn_now f q t S A node p
-        at p lp k l (inl e) = ap (A'' node) e ∙ wrote.here ∙ a-is ∙ steady ∙ ap (turn_now f q t S A node) (sym e)
+        at p lp k l (inl e) = ap (A'' node) e ∙ wrote.here ∙ a_is ∙ steady ∙ ap (turn_now f q t S A node) (sym e)
         at p lp k l (inr ne) = wrote.other node p lp (inr ne) ∙ inv.made p lp k (omega arith)
 
         stays : (i p : ℕ) → i < q * t → p < q ^ t → (i ≢ node) ⊎ ((score q t S p ≢ level) ⊎ (place + 1 ≤ p)) → A'' i p ≡ A i p

@@ -92,9 +92,9 @@ module _ {E : Type 0} (f : Arith E) (laws : Laws f) where
   )
 
   -- one call, with the last point a: the right sides v₀ are reduced to v₁, solved to v₂, divided to v₃, and the last unknown is written
-  module _ (nodes v₀ v₁ v₂ v₃ : List ℕ) (k : ℕ) (a d : E) (a-is : a ≡ points f nodes k) (apart : Apart (points f nodes) (suc k)) (room : k < length v₃)
+  module _ (nodes v₀ v₁ v₂ v₃ : List ℕ) (k : ℕ) (a d : E) (a_is : a ≡ points f nodes k) (apart : Apart (points f nodes) (suc k)) (room : k < length v₃)
       (reduced : Reduced f a v₀ v₁ k) (solved : Solves f (points f nodes) (reads f v₂) (reads f v₁) k) (divided : Divided f a nodes v₂ v₃ k)
-      (d-is : d ≡ minus f (reads f v₀ 0) (total f (reads f v₃) k)) where
+      (d_is : d ≡ minus f (reads f v₀ 0) (total f (reads f v₃) k)) where
     v₄ : List ℕ
     v₄ = set v₃ k (f.code d)
 
@@ -106,9 +106,9 @@ module _ {E : Type 0} (f : Arith E) (laws : Laws f) where
     unfolding v₄
     solved_more =
         solves_more f laws (points f nodes) (reads f v₀) (reads f v₂) (reads f v₄) k apart
-        (λ e l. solved e l ∙ reduced e l ∙ ap (λ w. minus f (reads f v₀ (suc e)) (f.product w (reads f v₀ e))) a-is)
-        (λ i l. other i l ∙ divided i l ∙ ap (λ w. f.product (f.inverse (minus f (points f nodes i) w)) (reads f v₂ i)) a-is)
-        (written v₃ k d room ∙ d-is ∙ ap (minus f (reads f v₀ 0)) (total_same f laws (reads f v₃) (reads f v₄) k (λ i l. sym (other i l))))
+        (λ e l. solved e l ∙ reduced e l ∙ ap (λ w. minus f (reads f v₀ (suc e)) (f.product w (reads f v₀ e))) a_is)
+        (λ i l. other i l ∙ divided i l ∙ ap (λ w. f.product (f.inverse (minus f (points f nodes i) w)) (reads f v₂ i)) a_is)
+        (written v₃ k d room ∙ d_is ∙ ap (minus f (reads f v₀ 0)) (total_same f laws (reads f v₃) (reads f v₄) k (λ i l. sym (other i l))))
 
   -- the same, as the call has it: of n unknowns k are before the last
   pub solved_call : (nodes v₀ v₁ v₂ v₃ : List ℕ) (k n w : ℕ) (a first rest d : E) → suc k ≡ n → n ≤ length v₀ → length v₃ ≡ length v₀
@@ -118,12 +118,12 @@ module _ {E : Type 0} (f : Arith E) (laws : Laws f) where
       → Divided f a nodes v₂ v₃ k × Codes f v₃ k × KeptFrom v₂ v₃ k
       → first ≡ reads f v₀ 0 → rest ≡ total f (reads f v₃) k → d ≡ minus f first rest → w ≡ f.code d
       → Solves f (points f nodes) (reads f (set v₃ k w)) (reads f v₀) n × Codes f (set v₃ k w) n × KeptFrom v₀ (set v₃ k w) n
-  solved_call nodes v₀ v₁ v₂ v₃ k n w a first rest d is room same a-is apart reduced solved divided first-is rest-is d-is w-is =
+  solved_call nodes v₀ v₁ v₂ v₃ k n w a first rest d is room same a_is apart reduced solved divided first_is rest_is d_is w_is =
       let r : k < length v₃ = omega arith in
       let e : k + 1 ≡ n = omega arith in (
         subst (λ m. Solves f (points f nodes) (reads f (set v₃ k w)) (reads f v₀) m) is
-            (subst (λ v. Solves f (points f nodes) (reads f (set v₃ k v)) (reads f v₀) (suc k)) (sym w-is)
-            (solved_more nodes v₀ v₁ v₂ v₃ k a d a-is (λ i j li lj. apart i j (omega arith) (omega arith)) r reduced.0 solved.0 divided.0 (d-is ∙ ap₂ (minus f) first-is rest-is))),
-        subst (λ m. Codes f (set v₃ k w) m) e (codes_more v₃ k w r divided.1 w-is),
+            (subst (λ v. Solves f (points f nodes) (reads f (set v₃ k v)) (reads f v₀) (suc k)) (sym w_is)
+            (solved_more nodes v₀ v₁ v₂ v₃ k a d a_is (λ i j li lj. apart i j (omega arith) (omega arith)) r reduced.0 solved.0 divided.0 (d_is ∙ ap₂ (minus f) first_is rest_is))),
+        subst (λ m. Codes f (set v₃ k w) m) e (codes_more v₃ k w r divided.1 w_is),
         λ j l. get_or-set_other v₃ k j w 0 (omega arith) ∙ divided.2 j (omega arith) ∙ solved.1 j (omega arith) ∙ reduced.1 j (omega arith),
       )

@@ -71,10 +71,10 @@ module _ {E : Type 0} (q t : ℕ) (nodes : List ℕ) (rises : rising (q * t) nod
   pub written_more : (k : ℕ) → k < length nodes → (A A' A'' : ℕ → ℕ → E) → WrittenTo q t nodes place x k A A'
       → (node : ℕ) (a : E) → node ≡ get_or nodes k 0 → a ≡ x k → Wrote (q ^ t) node place a A' A''
       → WrittenTo q t nodes place x (k + 1) A A''
-  written_more k lk A A' A'' inv node a node_is a-is wrote = record {
+  written_more k lk A A' A'' inv node a node_is a_is wrote = record {
     made = below_next (λ j. A'' (get_or nodes j 0) place ≡ x j) k
         (λ j l. wrote.other (get_or nodes j 0) place lp (inl (let r = rising_order (q * t) nodes rises j k l lk in λ e. omega arith)) ∙ inv.made j l)
-        (ap (λ i. A'' i place) (sym node_is) ∙ wrote.here ∙ a-is);
+        (ap (λ i. A'' i place) (sym node_is) ∙ wrote.here ∙ a_is);
     kept = λ i p li lq h. go i p li lq h;
   }
     where

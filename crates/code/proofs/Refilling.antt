@@ -158,7 +158,7 @@ module _ {E : Type 0} (f : Arith E) (laws : Laws f) {q t : ℕ} (s : Shaped q t)
 
     write_one : (done done' : ℕ → Type 0) → ((p : ℕ) → p < q ^ t → done' p → p ≢ place → done p) → RefilledWhere f q t (among nodes) lost done before now
         → a ≡ refill f q t (among nodes) lost (symbols f (q ^ t) before) place → RefilledWhere f q t (among nodes) lost done' before after
-    write_one done done' step inv a-is = record {
+    write_one done done' step inv a_is = record {
       made = λ p lp d. at p lp d (cases_eq p place);
       codes = λ p lp d. code p lp d (cases_eq p place);
       others = written_others inv.others;
@@ -166,7 +166,7 @@ module _ {E : Type 0} (f : Arith E) (laws : Laws f) {q t : ℕ} (s : Shaped q t)
       where
         at : (p : ℕ) → p < q ^ t → done' p → (p ≡ place) ⊎ (p ≡ place → ⊥) → symbols f (q ^ t) after lost p ≡ refill f q t (among nodes) lost (symbols f (q ^ t) before) p
         at p lp d (inl e) =
-            ap (symbols f (q ^ t) after lost) e ∙ ap (read f) written_code ∙ read_written f laws a ∙ a-is ∙ ap (refill f q t (among nodes) lost (symbols f (q ^ t) before)) (sym e)
+            ap (symbols f (q ^ t) after lost) e ∙ ap (read f) written_code ∙ read_written f laws a ∙ a_is ∙ ap (refill f q t (among nodes) lost (symbols f (q ^ t) before)) (sym e)
         at p lp d (inr ne) = ap (read f) (written_other p ne) ∙ inv.made p lp (step p lp d ne)
 
         code : (p : ℕ) → p < q ^ t → done' p → (p ≡ place) ⊎ (p ≡ place → ⊥) → laid (q ^ t) after lost p < f.size
@@ -174,10 +174,10 @@ module _ {E : Type 0} (f : Arith E) (laws : Laws f) {q t : ℕ} (s : Shaped q t)
         code p lp d (inr ne) = subst (λ v. v < f.size) (sym (written_other p ne)) (inv.codes p lp (step p lp d ne))
 
   -- the node of row k in the column, in a plane that helps
-  module _ (plane k helper place : ℕ) (lplane : plane < q ^ t) (lk : k < q) (helps-plane : Helps q lost plane) (helper-is : helper ≡ get_or nodes k 0) (place_is : place ≡ companion_place q helper plane) where
+  module _ (plane k helper place : ℕ) (lplane : plane < q ^ t) (lk : k < q) (helps_plane : Helps q lost plane) (helper_is : helper ≡ get_or nodes k 0) (place_is : place ≡ companion_place q helper plane) where
     helper_at : helper ≡ node_at q k (column q lost)
     unfolding node_at
-    helper_at = helper-is ∙ run.1 k lk
+    helper_at = helper_is ∙ run.1 k lk
 
     pub helper_within : helper < q * t
     helper_within = let b = node_bound q pos k (column q lost) t lk (column_bound q pos lost t within) in let e = helper_at in omega arith
@@ -186,7 +186,7 @@ module _ {E : Type 0} (f : Arith E) (laws : Laws f) {q t : ℕ} (s : Shaped q t)
     helper_column = ap (column q) helper_at ∙ column_node q pos k (column q lost) lk
 
     is_lost : companion_node q helper plane ≡ lost
-    is_lost = companion_lost f laws q t pos s.few lost within helper plane helper_column helps-plane
+    is_lost = companion_lost f laws q t pos s.few lost within helper plane helper_column helps_plane
 
     pub place_within : place < q ^ t
     place_within = let b = companion_place_bound q pos helper plane t helper_within lplane in omega arith
@@ -201,16 +201,16 @@ module _ {E : Type 0} (f : Arith E) (laws : Laws f) {q t : ℕ} (s : Shaped q t)
     gives : (A A' : ℕ → ℕ → E) → ApartLost A' A → (b : E) → b ≡ solution f q t (among nodes) A helper plane
         → given f lost helper (A' helper plane) b ≡ refill f q t (among nodes) lost A place
     unfolding given
-    gives A A' apart b b-is = go (cases_eq helper lost)
+    gives A A' apart b b_is = go (cases_eq helper lost)
       where
         go : (helper ≡ lost) ⊎ (helper ≡ lost → ⊥) → cond (eqb helper lost) b (f.product (f.inverse f.coupling) (minus f b (A' helper plane))) ≡ refill f q t (among nodes) lost A place
         go (inl e) =
             let own = companion_own place (back_node ∙ e) in
-            cond-true (eqb helper lost) _ _ (eq-eqb helper lost e) ∙ b-is ∙ ap₂ (solution f q t (among nodes) A) e (sym back_place ∙ own.1) ∙ sym (refill_own A place own.0)
+            cond-true (eqb helper lost) _ _ (eq-eqb helper lost e) ∙ b_is ∙ ap₂ (solution f q t (among nodes) A) e (sym back_place ∙ own.1) ∙ sym (refill_own A place own.0)
         go (inr ne) =
             cond-false (eqb helper lost) _ _ (ne_eqb helper lost ne)
             ∙ ap₂ (λ v w. f.product (f.inverse f.coupling) (minus f v w))
-            (b-is ∙ sym (ap₂ (solution f q t (among nodes) A) back_node back_place))
+            (b_is ∙ sym (ap₂ (solution f q t (among nodes) A) back_node back_place))
             (apart helper plane helper_within lplane ne ∙ sym (ap₂ A back_node back_place))
             ∙ sym (refill_pair A place (companion_not place (λ e. ne (sym back_node ∙ e))))
 
@@ -218,10 +218,10 @@ module _ {E : Type 0} (f : Arith E) (laws : Laws f) {q t : ℕ} (s : Shaped q t)
     pub row_more : (before now after : List ℕ) (a b : E) → q * t * q ^ t ≤ length now → PlaneRefilled f q t (among nodes) lost plane k before now
         → b ≡ solution f q t (among nodes) (symbols f (q ^ t) before) helper plane → a ≡ given f lost helper (symbols f (q ^ t) now helper plane) b
         → after ≡ set now (lost * q ^ t + place) (f.code a) → PlaneRefilled f q t (among nodes) lost plane (k + 1) before after
-    row_more before now after a b room inv b-is a-is same = record {
+    row_more before now after a b room inv b_is a_is same = record {
       filled = write_one place before now after a place_within room same
           (λ p. (companion_place q lost p ≡ plane) × (digit q p (column q lost) < k)) (λ p. (companion_place q lost p ≡ plane) × (digit q p (column q lost) < k + 1)) earlier inv.filled
-          (a-is ∙ gives (symbols f (q ^ t) before) (symbols f (q ^ t) now) (others_apart before now inv.filled.others) b b-is);
+          (a_is ∙ gives (symbols f (q ^ t) before) (symbols f (q ^ t) now) (others_apart before now inv.filled.others) b b_is);
       kept = λ p lp ne. written_other place before now after a place_within room same p (λ e. ne (ap (companion_place q lost) e ∙ back_place)) ∙ inv.kept p lp ne;
     }
       where
@@ -245,10 +245,10 @@ module _ {E : Type 0} (f : Arith E) (laws : Laws f) {q t : ℕ} (s : Shaped q t)
   -- a plane that does not help is no companion's
   pub planes_skip : (plane : ℕ) (before now : List ℕ) → (Helps q lost plane → ⊥) → RefilledWhere f q t (among nodes) lost (λ p. companion_place q lost p < plane) before now
       → RefilledWhere f q t (among nodes) lost (λ p. companion_place q lost p < plane + 1) before now
-  planes_skip plane before now no-help inv = record { made = λ p lp d. inv.made p lp (low p d); codes = λ p lp d. inv.codes p lp (low p d); others = inv.others }
+  planes_skip plane before now no_help inv = record { made = λ p lp d. inv.made p lp (low p d); codes = λ p lp d. inv.codes p lp (low p d); others = inv.others }
     where
       low : (p : ℕ) → companion_place q lost p < plane + 1 → companion_place q lost p < plane
-      low p d = let m : companion_place q lost p ≢ plane = (λ e. no-help (ap (λ r. digit q r (column q lost)) (sym e) ∙ digit_companion q pos lost p)) in omega arith
+      low p d = let m : companion_place q lost p ≢ plane = (λ e. no_help (ap (λ r. digit q r (column q lost)) (sym e) ∙ digit_companion q pos lost p)) in omega arith
 
   pub planes_more : (plane : ℕ) (before now after : List ℕ) → RefilledWhere f q t (among nodes) lost (λ p. companion_place q lost p < plane) before now
       → PlaneRefilled f q t (among nodes) lost plane q now after → RefilledWhere f q t (among nodes) lost (λ p. companion_place q lost p < plane + 1) before after
@@ -284,8 +284,8 @@ module _ {E : Type 0} (f : Arith E) (laws : Laws f) {q t : ℕ} (s : Shaped q t)
     -- helper words are codes
     helper_code : (i p : ℕ) → i < q * t → p < q ^ t → digit q p (column q lost) ≡ row q lost → i ≢ lost → laid (q ^ t) before i p < f.size
     helper_code i p li lp h ne =
-        let row-good = every_at (λ j. cond (eqb j lost) true (helper_codes f q t (laid (q ^ t) before) lost j)) (q * t) good i li in
-        let here = sym (cond-false (eqb i lost) true (helper_codes f q t (laid (q ^ t) before) lost i) (ne_eqb i lost ne)) ∙ row-good in
+        let row_good = every_at (λ j. cond (eqb j lost) true (helper_codes f q t (laid (q ^ t) before) lost j)) (q * t) good i li in
+        let here = sym (cond-false (eqb i lost) true (helper_codes f q t (laid (q ^ t) before) lost i) (ne_eqb i lost ne)) ∙ row_good in
         let word = every_at (λ r. cond (helps q lost r) (ltb (laid (q ^ t) before i r) f.size) true) (q ^ t) here p lp in
         ltb-true (laid (q ^ t) before i p) f.size (sym (cond-true (helps q lost p) (ltb (laid (q ^ t) before i p) f.size) true (eq-eqb (digit q p (column q lost)) (row q lost) h)) ∙ word)
 

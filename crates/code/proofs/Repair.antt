@@ -156,12 +156,12 @@ module _ {E : Type 0} (f : Arith E) (laws : Laws f) (q t : ℕ) (pos : 0 < q) (f
           let d : ℕ = companion_place q i p in
           let is : companion_node q i p ≡ lost = companion_lost i p k r in
           let back : companion_node q lost d ≡ i = ap (λ j. companion_node q j d) (sym is) ∙ companion_back q pos i p in
-          let back-plane : companion_place q lost d ≡ p = ap (λ j. companion_place q j d) (sym is) ∙ companion_place_back q pos i p in
+          let back_plane : companion_place q lost d ≡ p = ap (λ j. companion_place q j d) (sym is) ∙ companion_place_back q pos i p in
           let ne : row q i ≢ row q lost = λ e. o (e ∙ sym r ∙ ap (digit q p) (sym k)) in
           let unread : Helps q lost d → ⊥ = λ e. ne (sym (digit_companion q pos i p) ∙ ap (digit q d) k ∙ e) in
           uncoupled_pair f laws q A' i p o
           ∙ ap₂ (λ v w. v ⊕ u ⊗ w) (agree i p li lp r (λ e. ne (ap (row q) e)))
-          (ap (λ j. A' j d) is ∙ pair d (companion_place_bound q pos i p t li lp) unread ∙ ap₂ (λ j s. inverse u ⊗ minus f (b j s) (A j s)) back back-plane)
+          (ap (λ j. A' j d) is ∙ pair d (companion_place_bound q pos i p t li lp) unread ∙ ap₂ (λ j s. inverse u ⊗ minus f (b j s) (A j s)) back back_plane)
           ∙ ap (λ v. A i p ⊕ v) (inverse_back f laws u (minus f (b i p) (A i p)) laws.coupling_zero)
           ∙ laws.sum_comm (A i p) (minus f (b i p) (A i p)) ∙ minus_back f laws (b i p) (A i p)
 

@@ -82,7 +82,7 @@ module _ {E : Type 0} (f : Arith E) (laws : Laws f) {q t : ℕ} (s : Shaped q t)
         stands_out i e = not-true (among nodes i) e
 
     pub none_agrees : (Checks f q t q (symbols f (q ^ t) after) → ⊥) → (w : Words) → Agrees f q t (standing nodes) (laid (q ^ t) before) w → ⊥
-    none_agrees not-all w agrees = not-all (checks_same f s laws q (elements f w) (symbols f (q ^ t) after) (alike w agrees) agrees.codeword.checks)
+    none_agrees not_all w agrees = not_all (checks_same f s laws q (elements f w) (symbols f (q ^ t) after) (alike w agrees) agrees.codeword.checks)
 
 -- which refusal comes first
 module _ {E : Type 0} (f : Arith E) (q t count : ℕ) (nodes ws : List ℕ) where

@@ -9,8 +9,8 @@ use Rattle.code.proofs.InPlace.{below_next}
 
 -- a call that is not refused
 pub accepted : {X Y : Type 0} (r : Result X Y) (P : Type 0) (Q : Y → Type 0) → MatchResult r (λ x. P) Q → ((e : Y) → Q e → ⊥) → P
-accepted (Ok x) P Q h no-error = h
-accepted (Err e) P Q h no-error = absurd (no-error e h)
+accepted (Ok x) P Q h no_error = h
+accepted (Err e) P Q h no_error = absurd (no_error e h)
 
 pub run_none : (first : ℕ) (nodes : List ℕ) → nodes ≡ [] → Run first nodes 0
 run_none first nodes e = (ap length e, λ k l. absurd (omega arith))

@@ -27,19 +27,19 @@ module _ {E : Type 0} (f : Arith E) (laws : Laws f) where
   pub solution : (n : ℕ) (nodes before after : List ℕ) → n ≤ 16 → rising n nodes ≡ true → length after ≡ length before
       → Codes f before (length nodes) → Codes f after (length nodes) → Solves f (points f nodes) (reads f after) (reads f before) (length nodes)
       → KeptFrom before after (length nodes) → Solution f nodes before after
-  solution n nodes before after few e l codes-before codes solves kept =
+  solution n nodes before after few e l codes_before codes solves kept =
       let m : ℕ = length nodes in
       let pt : ℕ → E = points f nodes in
       let x : ℕ → E = λ k. f.of (get_or after k 0) in
       let s : ℕ → E = λ k. f.of (get_or before k 0) in
-      let solves-of : Solves f pt x s m = λ d h.
+      let solves_of : Solves f pt x s m = λ d h.
       moment_same f laws pt x (reads f after) m d (λ k lk. sym (read_code f (get_or after k 0) (codes k lk)))
-      ∙ solves d h ∙ read_code f (get_or before d 0) (codes-before d h) in
+      ∙ solves d h ∙ read_code f (get_or before d 0) (codes_before d h) in
       record {
         codes = codes;
-        solves = solves-of;
-        only = λ y hy solves-y k lk.
+        solves = solves_of;
+        only = λ y hy solves_y k lk.
             same_word (get_or y k 0) (get_or after k 0) (hy k lk) (codes k lk)
-            (only_solution f laws m pt s (λ j. f.of (get_or y j 0)) x (listed_apart f laws n nodes few e) solves-y solves-of k lk);
+            (only_solution f laws m pt s (λ j. f.of (get_or y j 0)) x (listed_apart f laws n nodes few e) solves_y solves_of k lk);
         rest = rest_kept m before after l kept;
       }

@@ -83,12 +83,12 @@ module _ {E : Type 0} (f : Arith E) (laws : Laws f) (pt : ℕ → E) (S : ℕ �
   only_in n e below (suc m) x a c o v =
       let k = count_in S n e in
       let d : ℕ → E = λ i. minus f (pt i) (pt n) ⊗ x i in
-      let d-zero : (i : ℕ) → i < n → d i ≡ 𝟎
+      let d_zero : (i : ℕ) → i < n → d i ≡ 𝟎
       = below m d (λ i j li lj. a i j (omega arith) (omega arith)) (omega arith)
       (λ i l out. ap (λ w. minus f (pt i) (pt n) ⊗ w) (o i (omega arith) out) ∙ product_zero f laws (minus f (pt i) (pt n)))
       (reduced x n m v) in
       let z : (i : ℕ) → i < n → x i ≡ 𝟎
-      = λ i l. factor_zero f laws (minus f (pt i) (pt n)) (x i) (minus_apart f laws (pt i) (pt n) (a i n (omega arith) (omega arith) (omega arith))) (d-zero i l) in
+      = λ i l. factor_zero f laws (minus f (pt i) (pt n)) (x i) (minus_apart f laws (pt i) (pt n) (a i n (omega arith) (omega arith) (omega arith))) (d_zero i l) in
       last_or (λ i. x i ≡ 𝟎) n (last_zero x n m z v) z
 
   pub only_zero : (n : ℕ) → Only n

@@ -5,7 +5,7 @@ ghost use Rattle.code.specs.Code.{laid};
 ghost use Rattle.code.specs.Reading.{symbols};
 ghost use Rattle.code.specs.Steps.{NodeRefilled, PlaneRefilled, Run, given};
 ghost use Rattle.code.specs.Theorems.{Helps, RepairOne, RepairSome};
-ghost use Rattle.shape.specs.Layout.{column as column-of};
+ghost use Rattle.shape.specs.Layout.{column as column_of};
 ghost use Rattle.shape.specs.Listing.{outages};
 ghost use Rattle.shape.specs.Outages.{among};
 
@@ -81,7 +81,7 @@ fn refill_from<F: Field>(
     requires plane { plane < shape.q ^ shape.t }
     requires room { shape.q * shape.t * shape.q ^ shape.t ≤ length words.old }
     requires count { column.now.count ≡ shape.q * shape.t }
-    requires nodes { Run (column-of shape.q node * shape.q) (outages column.now) shape.q }
+    requires nodes { Run (column_of shape.q node * shape.q) (outages column.now) shape.q }
     requires helps { Helps shape.q node plane }
     ensures { PlaneRefilled F.arith shape.q shape.t (among (outages column.now)) node plane shape.q words.old words.new }
 {

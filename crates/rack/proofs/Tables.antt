@@ -61,11 +61,11 @@ module _ (n w : ℕ) (ns : List Node) (ws : List ℕ) (i : ℕ) where
     -- x' is the node once more, and y the node after it was drawn
     pub table_get : (x' y : Node) → x' ≡ get_or ns i x' → y.standing ≡ x'.standing → y.meter ≡ risen x'.meter 1 → (p : ℕ) → p < w → x.standing ≡ true → table n w (set ns i y) ws ≡ after_get (table n w ns ws) i p
     table_get x' y again stood rose p hp up =
-        let is-x' = get_or_read ns i x' (omega arith) again blank in
+        let is_x' = get_or_read ns i x' (omega arith) again blank in
         set_node y (omega arith) (with_draw (table n w ns ws) i) refl refl
-        (changed_to_same (λ j. (get_or ns j blank).standing) i y.standing (ap (λ z. z.standing) (sym is-x') ∙ sym stood))
+        (changed_to_same (λ j. (get_or ns j blank).standing) i y.standing (ap (λ z. z.standing) (sym is_x') ∙ sym stood))
         (λ k q. refl)
-        (λ k. ap (λ z. changed (λ j. (get_or ns j blank).meter) i z k) (rose ∙ ap (λ z. risen z.meter 1) is-x'))
+        (λ k. ap (λ z. changed (λ j. (get_or ns j blank).meter) i z k) (rose ∙ ap (λ z. risen z.meter 1) is_x'))
         ∙ sym (after_get_ok (table n w ns ws) i p hi hp (ap (λ z. z.standing) (sym is_x) ∙ up))
 
     pub table_flag : (b : Bool) → table n w (set ns i (record { standing = b; meter = x.meter })) ws ≡ after_flag (table n w ns ws) i b

@@ -39,7 +39,7 @@ drawn_was_err true false e was = refl
 drawn_was_err false stands e was = refl
 
 -- a node of one room was moved to the other, or not
-module _ (a a' b b' : Model) (xs xs' ys ys' : List ℕ) (n m w i j : ℕ) (fit : rooms_fit n m w ≡ true) (first : Formed n w xs) (second : Formed m w ys) (was-a : a ≡ opened w xs) (was-b : b ≡ opened w ys) (x : xs ≡ image a) (x' : xs' ≡ image a') (y : ys ≡ image b) (y' : ys' ≡ image b') (source : a' ≡ after_move_from a i b j) (sink : b' ≡ after_move_to a i b j) where
+module _ (a a' b b' : Model) (xs xs' ys ys' : List ℕ) (n m w i j : ℕ) (fit : rooms_fit n m w ≡ true) (first : Formed n w xs) (second : Formed m w ys) (was_a : a ≡ opened w xs) (was_b : b ≡ opened w ys) (x : xs ≡ image a) (x' : xs' ≡ image a') (y : ys ≡ image b) (y' : ys' ≡ image b') (source : a' ≡ after_move_from a i b j) (sink : b' ≡ after_move_to a i b j) where
   pub move_cases : (r : Result (Unit {0}) Refusal) → r ≡ drawn (movable a i b j) (a.flags i)
       → MatchResult r (λ _. NodeMoved n m w xs ys i j xs' ys')
       (λ e. (xs' ≡ xs) × (ys' ≡ ys) × MoveRefused n m w xs ys i j e)
@@ -49,16 +49,16 @@ module _ (a a' b b' : Model) (xs xs' ys ys' : List ℕ) (n m w i j : ℕ) (fit :
       record {
         counts = fit;
         formed = (first, second);
-        fits = ap₂ (λ u v. movable u i v j) (sym was-a) (sym was-b) ∙ both.0;
-        stood = ap (λ u. u.flags i) (sym was-a) ∙ both.1;
-        source = x' ∙ ap image (source ∙ ap (λ t. cond t (moved_from a i) a) go ∙ ap (λ u. moved_from u i) was-a);
-        sink = y' ∙ ap image (sink ∙ ap (λ t. cond t (filled b j (a.words i)) b) go ∙ ap₂ (λ u v. filled v j (u.words i)) was-a was-b);
+        fits = ap₂ (λ u v. movable u i v j) (sym was_a) (sym was_b) ∙ both.0;
+        stood = ap (λ u. u.flags i) (sym was_a) ∙ both.1;
+        source = x' ∙ ap image (source ∙ ap (λ t. cond t (moved_from a i) a) go ∙ ap (λ u. moved_from u i) was_a);
+        sink = y' ∙ ap image (sink ∙ ap (λ t. cond t (filled b j (a.words i)) b) go ∙ ap₂ (λ u v. filled v j (u.words i)) was_a was_b);
       }
   move_cases (Err e) was =
       let stop = drawn_was_err (movable a i b j) (a.flags i) e was in (
         x' ∙ ap image (source ∙ ap (λ t. cond t (moved_from a i) a) stop) ∙ sym x,
         y' ∙ ap image (sink ∙ ap (λ t. cond t (filled b j (a.words i)) b) stop) ∙ sym y,
-        inr (fit, first, second, was ∙ ap₂ (λ u v. drawn (movable u i v j) (u.flags i)) was-a was-b),
+        inr (fit, first, second, was ∙ ap₂ (λ u v. drawn (movable u i v j) (u.flags i)) was_a was_b),
       )
 
 -- the same of racks over the bytes: s was opened on bs and is t later, u was opened on ys and is v later
@@ -69,15 +69,15 @@ lent_filled s t n w bs bs' ws i r taken lent held stays ends was left =
     fill_cases (image_model s) (image_model t) bs bs' ws n w i r taken.0 taken.1 held (lent_before s n w bs few taken.1 lent held) (ends ∙ lent_after s n w bs few taken.1 lent held t stays) was left
 
 -- a node was moved from the rack that was s to the one that was u
-module _ (s t u v : ImageRack) (n m w : ℕ) (xs xs' ys ys' : List ℕ) (i j : ℕ) (taken : (rooms_fit n m w ≡ true) × Formed n w xs × Formed m w ys) (lent-x : s.bytes.now ≡ xs) (held_x : image_model s ≡ opened w xs) (lent-y : u.bytes.now ≡ ys) (held-y : image_model u ≡ opened w ys) where
+module _ (s t u v : ImageRack) (n m w : ℕ) (xs xs' ys ys' : List ℕ) (i j : ℕ) (taken : (rooms_fit n m w ≡ true) × Formed n w xs × Formed m w ys) (lent_x : s.bytes.now ≡ xs) (held_x : image_model s ≡ opened w xs) (lent_y : u.bytes.now ≡ ys) (held_y : image_model u ≡ opened w ys) where
   pub lent_moved : ((k : ℕ) → Formed k s.places s.bytes.now → Formed k t.places t.bytes.now) → ((k : ℕ) → Formed k u.places u.bytes.now → Formed k v.places v.bytes.now) → xs' ≡ t.bytes.now → ys' ≡ v.bytes.now → image_model t ≡ after_move_from (image_model s) i (image_model u) j → image_model v ≡ after_move_to (image_model s) i (image_model u) j
       → (r : Result (Unit {0}) Refusal) → r ≡ drawn (movable (image_model s) i (image_model u) j) ((image_model s).flags i)
       → MatchResult r (λ _. NodeMoved n m w xs ys i j xs' ys')
       (λ e. (xs' ≡ xs) × (ys' ≡ ys) × MoveRefused n m w xs ys i j e)
-  lent_moved stays-x stays-y ends-x ends-y source sink r was =
-      let few-x = few_first n m w taken.0 in
-      let few-y = few_second n m w taken.0 in
-      move_cases (image_model s) (image_model t) (image_model u) (image_model v) xs xs' ys ys' n m w i j taken.0 taken.1 taken.2 held_x held-y
-      (lent_before s n w xs few-x taken.1 lent-x held_x) (ends-x ∙ lent_after s n w xs few-x taken.1 lent-x held_x t stays-x)
-      (lent_before u m w ys few-y taken.2 lent-y held-y) (ends-y ∙ lent_after u m w ys few-y taken.2 lent-y held-y v stays-y)
+  lent_moved stays_x stays_y ends_x ends_y source sink r was =
+      let few_x = few_first n m w taken.0 in
+      let few_y = few_second n m w taken.0 in
+      move_cases (image_model s) (image_model t) (image_model u) (image_model v) xs xs' ys ys' n m w i j taken.0 taken.1 taken.2 held_x held_y
+      (lent_before s n w xs few_x taken.1 lent_x held_x) (ends_x ∙ lent_after s n w xs few_x taken.1 lent_x held_x t stays_x)
+      (lent_before u m w ys few_y taken.2 lent_y held_y) (ends_y ∙ lent_after u m w ys few_y taken.2 lent_y held_y v stays_y)
       source sink r was

@@ -5,7 +5,7 @@ use Rattle.shape.proofs.Bounds.{Shaped, rows_positive, rows_bound, columns_bound
 use Rattle.shape.proofs.Digits.{digit_bound, digit_fits, row_bound, column_bound}
 
 -- node i stands in column y
-module _ {q t : ℕ} (s : Shaped q t) (i : ℕ) (within : i < q * t) {y : ℕ} (y-is : y ≡ column q i) where
+module _ {q t : ℕ} (s : Shaped q t) (i : ℕ) (within : i < q * t) {y : ℕ} (y_is : y ≡ column q i) where
   pub column_small : y < 8
   column_small = let a = column_bound q (rows_positive s) i t within in let b = columns_bound s in omega arith
 
@@ -17,7 +17,7 @@ module _ {q t : ℕ} (s : Shaped q t) (i : ℕ) (within : i < q * t) {y : ℕ} (
   first_small = let a : y ≤ 8 = (let b = column_small in omega arith) in mul-le-mul a (rows_bound s)
 
   -- place p has digit z there, with weight w
-  module _ (p : ℕ) {z w : ℕ} (z-is : z ≡ digit q p y) (w-is : w ≡ q ^ y) where
+  module _ (p : ℕ) {z w : ℕ} (z_is : z ≡ digit q p y) (w_is : w ≡ q ^ y) where
     pub digit_small : z < 8
     digit_small = let a = digit_bound q (rows_positive s) p y in let b = rows_bound s in omega arith
 

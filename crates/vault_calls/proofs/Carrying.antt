@@ -26,15 +26,15 @@ gathered_rest n P flags test words before after pos long gathered =
     ∙ ap (λ x. get_or before x 0) is)
 
 module _ {E : Type 0} (f : Arith E) (q t : ℕ) (g h : ℕ → Bool) (v w : Words)
-    (same-stands : (i : ℕ) → i < q * t → g i ≡ h i) (same-words : (i p : ℕ) → i < q * t → p < q ^ t → h i ≡ true → v i p ≡ w i p) where
+    (same_stands : (i : ℕ) → i < q * t → g i ≡ h i) (same_words : (i p : ℕ) → i < q * t → p < q ^ t → h i ≡ true → v i p ≡ w i p) where
   -- a codeword that agrees with the one agrees with the other
   pub agrees_too : (c : Words) → Agrees f q t g v c → Agrees f q t h w c
-  agrees_too c a = record { codeword = a.codeword; same = λ i p li lp up. a.same i p li lp (same-stands i li ∙ up) ∙ same-words i p li lp up }
+  agrees_too c a = record { codeword = a.codeword; same = λ i p li lp up. a.same i p li lp (same_stands i li ∙ up) ∙ same_words i p li lp up }
 
   pub agrees_back : (c : Words) → Agrees f q t h w c → Agrees f q t g v c
   agrees_back c a = record {
     codeword = a.codeword;
-    same = λ i p li lp up. let stands = sym (same-stands i li) ∙ up in a.same i p li lp stands ∙ sym (same-words i p li lp stands);
+    same = λ i p li lp up. let stands = sym (same_stands i li) ∙ up in a.same i p li lp stands ∙ sym (same_words i p li lp stands);
   }
 
   pub only_too : (c : Words) → OnlyAgrees f q t g v c → OnlyAgrees f q t h w c
@@ -46,11 +46,11 @@ module _ {E : Type 0} (f : Arith E) (q t : ℕ) (g h : ℕ → Bool) (v w : Word
     where
       go : (i : ℕ) → i < q * t → (h i ≡ true) ⊎ (h i ≡ false) → cond (g i) (every (λ p. ltb (v i p) f.size) (q ^ t)) true ≡ cond (h i) (every (λ p. ltb (w i p) f.size) (q ^ t)) true
       go i l (inl up) =
-          cond-true (g i) (every (λ p. ltb (v i p) f.size) (q ^ t)) true (same-stands i l ∙ up)
-          ∙ every_same (λ p. ltb (v i p) f.size) (λ p. ltb (w i p) f.size) (q ^ t) (λ p lp. ap (λ x. ltb x f.size) (same-words i p l lp up))
+          cond-true (g i) (every (λ p. ltb (v i p) f.size) (q ^ t)) true (same_stands i l ∙ up)
+          ∙ every_same (λ p. ltb (v i p) f.size) (λ p. ltb (w i p) f.size) (q ^ t) (λ p lp. ap (λ x. ltb x f.size) (same_words i p l lp up))
           ∙ sym (cond-true (h i) (every (λ p. ltb (w i p) f.size) (q ^ t)) true up)
       go i l (inr down) =
-          cond-false (g i) (every (λ p. ltb (v i p) f.size) (q ^ t)) true (same-stands i l ∙ down)
+          cond-false (g i) (every (λ p. ltb (v i p) f.size) (q ^ t)) true (same_stands i l ∙ down)
           ∙ sym (cond-false (h i) (every (λ p. ltb (w i p) f.size) (q ^ t)) true down)
 
 -- a restore that was refused past its tests

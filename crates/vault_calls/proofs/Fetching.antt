@@ -48,13 +48,13 @@ module _ (m0 m : Model) (start P k : ℕ) (so_far : m ≡ read_drawn m0 start P 
           changed_other old n i ((old n + 1) % 2 ^ 64) ne
           ∙ ap (risen (m0.meters i)) (sym (count_more (λ j. eqb ((start + j) / P) i) k ∙ let b = cond-false {A = ℕ} (eqb n i) 1 0 (ne_eqb n i (λ e. ne (sym e))) in omega arith))
 
-  module _ (w : ℕ) (got-it : Ok w ≡ got m ((start + k) / P) ((start + k) % P)) where
+  module _ (w : ℕ) (got_it : Ok w ≡ got m ((start + k) / P) ((start + k) % P)) where
     pub read_word : w ≡ m0.words ((start + k) / P) ((start + k) % P)
-    read_word = (got_was_ok m ((start + k) / P) ((start + k) % P) w got-it).3 ∙ ap (λ x. x.words ((start + k) / P) ((start + k) % P)) so_far
+    read_word = (got_was_ok m ((start + k) / P) ((start + k) % P) w got_it).3 ∙ ap (λ x. x.words ((start + k) / P) ((start + k) % P)) so_far
 
     pub read_step : (m' : Model) → m' ≡ after_get m ((start + k) / P) ((start + k) % P) → m' ≡ read_drawn m0 start P (k + 1)
     read_step m' after =
-        let g = got_was_ok m ((start + k) / P) ((start + k) % P) w got-it in
+        let g = got_was_ok m ((start + k) / P) ((start + k) % P) w got_it in
         after ∙ after_get_ok m ((start + k) / P) ((start + k) % P) g.0 g.1 g.2 ∙ ap (λ x. with_draw x ((start + k) / P)) so_far ∙ read_more
 
 -- one word more in a buffer
@@ -96,7 +96,7 @@ module _ (q t start len P k : ℕ) (m0 : Model) where
   read_end m is end so_far = so_far ∙ ap₂ (λ x n. read_drawn m0 start x n) is end
 
   pub words_end : (ws : List ℕ) → P ≡ q ^ t → k ≡ len → ((j : ℕ) → j < k → get_or ws j 0 ≡ m0.words ((start + j) / P) ((start + j) % P)) → (j : ℕ) → j < len → get_or ws j 0 ≡ held q t m0 (start + j)
-  words_end ws is end got-all j l = got-all j (omega arith) ∙ ap (λ x. m0.words ((start + j) / x) ((start + j) % x)) is
+  words_end ws is end got_all j l = got_all j (omega arith) ∙ ap (λ x. m0.words ((start + j) / x) ((start + j) % x)) is
 
 -- the tests of a read that refuse it
 module _ (q t start len : ℕ) (m : Model) where

@@ -21,13 +21,13 @@ stood false x e = e
 
 module _ {E : Type 0} (f : Arith E) (q t : ℕ) (only_help : OnlyHelp f q t) where
   -- after calls with this last message (if any), altered since or not
-  pub record Kept (m : Model) (last : Option (List ℕ)) (changed-since : Bool) : Type 0 where
+  pub record Kept (m : Model) (last : Option (List ℕ)) (changed_since : Bool) : Type 0 where
     pub nodes : m.nodes ≡ q * t
     pub places : m.places ≡ q ^ t
     -- every standing word is a code
     pub codes : (message : List ℕ) → last ≡ Some message → (i p : ℕ) → i < q * t → p < q ^ t → m.flags i ≡ true → m.words i p < f.size
     -- without an alter, every standing word is the store's
-    pub stored : (message : List ℕ) (w : Words) → last ≡ Some message → changed-since ≡ false → Encodes f q t message w
+    pub stored : (message : List ℕ) (w : Words) → last ≡ Some message → changed_since ≡ false → Encodes f q t message w
         → (i p : ℕ) → i < q * t → p < q ^ t → m.flags i ≡ true → m.words i p ≡ w i p
 
   -- flags and words as they were

@@ -7,7 +7,7 @@ use Rattle.shape.proofs.Counts.{count_all, count_same}
 use Rattle.shape.proofs.Listed.{listed_length, among_listed}
 use Rattle.code.specs.Code.{Words, laid, Agrees, OnlyAgrees}
 use Rattle.code.specs.Calls.{NoneAgrees, good_standing, standing}
-use Rattle.rack.specs.Model.{Model, risen, standing as stands-in}
+use Rattle.rack.specs.Model.{Model, risen, standing as stands_in}
 use Rattle.rack.proofs.Models.{both}
 use Rattle.refusal.specs.declared.reason.Refusal.{Refusal}
 use Rattle.refusal.specs.declared.reason.Refusal.TheVariants.{Size, WorkSpace, TooManyOut, BadWord, NoCodeword}
@@ -19,18 +19,18 @@ use Rattle.vault_calls.proofs.Listing.{standing_flag}
 use Rattle.vault_calls.proofs.Refusing.{right_size, sized, first_pass, first_here}
 
 -- which nodes are listed as out, and how many
-module _ (q t : ℕ) (m : Model) (nodes : List ℕ) (size : wrong_size q t m ≡ false) (list : nodes ≡ listed (λ i. not (stands-in m i)) (q * t)) where
+module _ (q t : ℕ) (m : Model) (nodes : List ℕ) (size : wrong_size q t m ≡ false) (list : nodes ≡ listed (λ i. not (stands_in m i)) (q * t)) where
   exists : (i : ℕ) → i < q * t → i < m.nodes
   exists i l = omega (arith, (right_size q t m size).0)
 
   pub among_out : (i : ℕ) → i < q * t → among nodes i ≡ not (m.flags i)
   among_out i l =
-      ap (λ (x : List ℕ). among x i) list ∙ among_listed (λ i. not (stands-in m i)) (q * t) i l ∙ ap not (standing_flag m i (exists i l))
+      ap (λ (x : List ℕ). among x i) list ∙ among_listed (λ i. not (stands_in m i)) (q * t) i l ∙ ap not (standing_flag m i (exists i l))
 
   pub out_length : length nodes ≡ out_count q t m
   out_length =
-      ap length list ∙ listed_length (λ i. not (stands-in m i)) (q * t)
-      ∙ count_same (λ i. not (stands-in m i)) (λ i. not (m.flags i)) (q * t) (λ i l. ap not (standing_flag m i (exists i l)))
+      ap length list ∙ listed_length (λ i. not (stands_in m i)) (q * t)
+      ∙ count_same (λ i. not (stands_in m i)) (λ i. not (m.flags i)) (q * t) (λ i l. ap not (standing_flag m i (exists i l)))
 
   twice : (b : Bool) → not (not b) ≡ b
   twice true = refl
@@ -39,8 +39,8 @@ module _ (q t : ℕ) (m : Model) (nodes : List ℕ) (size : wrong_size q t m ≡
   pub stand_same : (i : ℕ) → i < q * t → not (among nodes i) ≡ m.flags i
   stand_same i l = ap not (among_out i l) ∙ twice (m.flags i)
 
-module _ {E : Type 0} (f : Arith E) (q t : ℕ) (m m1 : Model) (nodes s0 s1 : List ℕ) (size : wrong_size q t m ≡ false) (list : nodes ≡ listed (λ i. not (stands-in m i)) (q * t))
-    (all-drawn : m1 ≡ drawn_below m (q * t) (count (takes q All) (q ^ t)))
+module _ {E : Type 0} (f : Arith E) (q t : ℕ) (m m1 : Model) (nodes s0 s1 : List ℕ) (size : wrong_size q t m ≡ false) (list : nodes ≡ listed (λ i. not (stands_in m i)) (q * t))
+    (all_drawn : m1 ≡ drawn_below m (q * t) (count (takes q All) (q ^ t)))
     (gathered : Gathered (q ^ t) (λ j p. (ltb j (q * t) && m.flags j) && takes q All p) m.words s0 s1) where
   words_same : (i p : ℕ) → i < q * t → p < q ^ t → m.flags i ≡ true → laid (q ^ t) s1 i p ≡ m.words i p
   words_same i p li lp up =
@@ -50,16 +50,16 @@ module _ {E : Type 0} (f : Arith E) (q t : ℕ) (m m1 : Model) (nodes s0 s1 : Li
 
   meters_drawn : (i : ℕ) → i < q * t → m1.meters i ≡ recover_meters f q t m i
   meters_drawn i l =
-      ap (λ x. x.meters i) all-drawn
+      ap (λ x. x.meters i) all_drawn
       ∙ ap₂ (λ b k. cond (b && m.flags i) (risen (m.meters i) k) (m.meters i)) (lt-ltb i (q * t) l) (count_all (takes q All) (q ^ t) (λ p lp. refl))
 
   -- everything was drawn, and nothing written
   pub drawn_now : Now q t m m.flags m.words (recover_meters f q t m) m1
   drawn_now = record {
-    same_nodes = ap (λ x. x.nodes) all-drawn;
-    same_places = ap (λ x. x.places) all-drawn;
-    has_flags = λ i l. ap (λ x. x.flags i) all-drawn;
-    has_words = λ i p li lp. ap (λ x. x.words i p) all-drawn;
+    same_nodes = ap (λ x. x.nodes) all_drawn;
+    same_places = ap (λ x. x.places) all_drawn;
+    has_flags = λ i l. ap (λ x. x.flags i) all_drawn;
+    has_words = λ i p li lp. ap (λ x. x.words i p) all_drawn;
     has_meters = meters_drawn;
   }
 
@@ -75,7 +75,7 @@ module _ {E : Type 0} (f : Arith E) (q t : ℕ) (m m1 : Model) (nodes s0 s1 : Li
     flag i l c = ap (λ x. x.flags i) wrote ∙ ap (λ b. cond (b && among nodes i) true (m1.flags i)) (lt-ltb i (q * t) l) ∙ go c
       where
         go : (m.flags i ≡ true) ⊎ (m.flags i ≡ false) → cond (among nodes i) true (m1.flags i) ≡ true
-        go (inl up) = cond-false (among nodes i) true (m1.flags i) (among_out q t m nodes size list i l ∙ ap not up) ∙ ap (λ x. x.flags i) all-drawn ∙ up
+        go (inl up) = cond-false (among nodes i) true (m1.flags i) (among_out q t m nodes size list i l ∙ ap not up) ∙ ap (λ x. x.flags i) all_drawn ∙ up
         go (inr down) = cond-true (among nodes i) true (m1.flags i) (among_out q t m nodes size list i l ∙ ap not down)
 
     word : (i p : ℕ) → i < q * t → p < q ^ t → (m.flags i ≡ true) ⊎ (m.flags i ≡ false) → m2.words i p ≡ W i p
@@ -83,19 +83,19 @@ module _ {E : Type 0} (f : Arith E) (q t : ℕ) (m m1 : Model) (nodes s0 s1 : Li
         ap (λ x. x.words i p) wrote ∙ ap₂ (λ b d. cond (b && among nodes i) (cond d (W i p) (m1.words i p)) (m1.words i p)) (lt-ltb i (q * t) l) (lt-ltb p m1.places inside) ∙ go c
       where
         inside : p < m1.places
-        inside = let a : m1.places ≡ m.places = ap (λ x. x.places) all-drawn in omega (arith, (right_size q t m size).1)
+        inside = let a : m1.places ≡ m.places = ap (λ x. x.places) all_drawn in omega (arith, (right_size q t m size).1)
 
         go : (m.flags i ≡ true) ⊎ (m.flags i ≡ false) → cond (among nodes i) (W i p) (m1.words i p) ≡ W i p
         go (inl up) =
-            cond-false (among nodes i) (W i p) (m1.words i p) (among_out q t m nodes size list i l ∙ ap not up) ∙ ap (λ x. x.words i p) all-drawn
+            cond-false (among nodes i) (W i p) (m1.words i p) (among_out q t m nodes size list i l ∙ ap not up) ∙ ap (λ x. x.words i p) all_drawn
             ∙ sym (only_agrees.agrees.same i p l lp up)
         go (inr down) = cond-true (among nodes i) (W i p) (m1.words i p) (among_out q t m nodes size list i l ∙ ap not down)
 
     -- every node stands with the codeword's words
     pub recovered_now : Now q t m (λ i. true) W (recover_meters f q t m) m2
     recovered_now = record {
-      same_nodes = ap (λ x. x.nodes) wrote ∙ ap (λ x. x.nodes) all-drawn;
-      same_places = ap (λ x. x.places) wrote ∙ ap (λ x. x.places) all-drawn;
+      same_nodes = ap (λ x. x.nodes) wrote ∙ ap (λ x. x.nodes) all_drawn;
+      same_places = ap (λ x. x.places) wrote ∙ ap (λ x. x.places) all_drawn;
       has_flags = λ i l. flag i l (cases_Bool (m.flags i));
       has_words = λ i p l lp. word i p l lp (cases_Bool (m.flags i));
       has_meters = λ i l. ap (λ x. x.meters i) wrote ∙ meters_drawn i l;

@@ -99,7 +99,7 @@ module _ {E : Type 0} (f : Arith E) (q t i : ℕ) (ws : List ℕ) (room : q * t 
 
 module _ {E : Type 0} (f : Arith E) (q t : ℕ) (s : Shaped q t) (lost : ℕ) (within : lost < q * t) (m m1 : Model) (s0 s1 : List ℕ)
     (size : wrong_size q t m ≡ false) (out : m.flags lost ≡ false) (few : out_count q t m ≤ 1)
-    (all-drawn : m1 ≡ drawn_below m (q * t) (count (takes q (Helping lost)) (q ^ t)))
+    (all_drawn : m1 ≡ drawn_below m (q * t) (count (takes q (Helping lost)) (q ^ t)))
     (gathered : Gathered (q ^ t) (λ j p. (ltb j (q * t) && m.flags j) && takes q (Helping lost) p) m.words s0 s1) where
   -- the helper words are in the space
   helper_words : (j p : ℕ) → j < q * t → p < q ^ t → helps q lost p ≡ true → (j ≡ lost → ⊥) → laid (q ^ t) s1 j p ≡ m.words j p
@@ -115,7 +115,7 @@ module _ {E : Type 0} (f : Arith E) (q t : ℕ) (s : Shaped q t) (lost : ℕ) (w
 
   meters_drawn : (j : ℕ) → j < q * t → m1.meters j ≡ repair_meters f q t m lost j
   meters_drawn j lj =
-      ap (λ x. x.meters j) all-drawn ∙ ap₂ (λ b k. cond (b && m.flags j) (risen (m.meters j) k) (m.meters j)) (lt-ltb j (q * t) lj) drawn_times ∙ go (cases_eq j lost)
+      ap (λ x. x.meters j) all_drawn ∙ ap₂ (λ b k. cond (b && m.flags j) (risen (m.meters j) k) (m.meters j)) (lt-ltb j (q * t) lj) drawn_times ∙ go (cases_eq j lost)
     where
       go : (j ≡ lost) ⊎ (j ≡ lost → ⊥) → cond (m.flags j) (risen (m.meters j) (q ^ (t - 1))) (m.meters j) ≡ repair_meters f q t m lost j
       go (inl e) =
@@ -128,10 +128,10 @@ module _ {E : Type 0} (f : Arith E) (q t : ℕ) (s : Shaped q t) (lost : ℕ) (w
   -- everything was drawn, and nothing written
   pub help_drawn : Now q t m m.flags m.words (repair_meters f q t m lost) m1
   help_drawn = record {
-    same_nodes = ap (λ x. x.nodes) all-drawn;
-    same_places = ap (λ x. x.places) all-drawn;
-    has_flags = λ j l. ap (λ x. x.flags j) all-drawn;
-    has_words = λ j p l lp. ap (λ x. x.words j p) all-drawn;
+    same_nodes = ap (λ x. x.nodes) all_drawn;
+    same_places = ap (λ x. x.places) all_drawn;
+    has_flags = λ j l. ap (λ x. x.flags j) all_drawn;
+    has_words = λ j p l lp. ap (λ x. x.words j p) all_drawn;
     has_meters = meters_drawn;
   }
 
@@ -144,9 +144,9 @@ module _ {E : Type 0} (f : Arith E) (q t : ℕ) (s : Shaped q t) (lost : ℕ) (w
   -- the node stands with the words of the space, and nothing else changed
   pub repaired_now : (c : ℕ → ℕ) (m2 : Model) → m2 ≡ filled m1 lost c → Now q t m (changed m.flags lost true) (changed m.words lost c) (repair_meters f q t m lost) m2
   repaired_now c m2 wrote = record {
-    same_nodes = ap (λ x. x.nodes) wrote ∙ ap (λ x. x.nodes) all-drawn;
-    same_places = ap (λ x. x.places) wrote ∙ ap (λ x. x.places) all-drawn;
-    has_flags = λ j l. ap (λ x. x.flags j) wrote ∙ ap (λ x. changed x.flags lost true j) all-drawn;
+    same_nodes = ap (λ x. x.nodes) wrote ∙ ap (λ x. x.nodes) all_drawn;
+    same_places = ap (λ x. x.places) wrote ∙ ap (λ x. x.places) all_drawn;
+    has_flags = λ j l. ap (λ x. x.flags j) wrote ∙ ap (λ x. changed x.flags lost true j) all_drawn;
     has_words = λ j p l lp. ap (λ x. x.words j p) wrote ∙ word j p lp (cases_eq j lost);
     has_meters = λ j l. ap (λ x. x.meters j) wrote ∙ meters_drawn j l;
   }
@@ -157,10 +157,10 @@ module _ {E : Type 0} (f : Arith E) (q t : ℕ) (s : Shaped q t) (lost : ℕ) (w
       word : (j p : ℕ) → p < q ^ t → (j ≡ lost) ⊎ (j ≡ lost → ⊥) → changed m1.words lost row_now j p ≡ changed m.words lost c j p
       word j p lp (inl e) =
           ap (λ x. changed m1.words lost row_now x p) e ∙ ap (λ (g : ℕ → ℕ). g p) (changed_same m1.words lost row_now)
-          ∙ cond-true (ltb p m1.places) (c p) (m1.words lost p) (lt-ltb p m1.places (let a : m1.places ≡ m.places = ap (λ x. x.places) all-drawn in omega (arith, (right_size q t m size).1)))
+          ∙ cond-true (ltb p m1.places) (c p) (m1.words lost p) (lt-ltb p m1.places (let a : m1.places ≡ m.places = ap (λ x. x.places) all_drawn in omega (arith, (right_size q t m size).1)))
           ∙ sym (ap (λ x. changed m.words lost c x p) e ∙ ap (λ (g : ℕ → ℕ). g p) (changed_same m.words lost c))
       word j p lp (inr ne) =
-          ap (λ (g : ℕ → ℕ). g p) (changed_other m1.words lost j row_now ne) ∙ ap (λ x. x.words j p) all-drawn
+          ap (λ (g : ℕ → ℕ). g p) (changed_other m1.words lost j row_now ne) ∙ ap (λ x. x.words j p) all_drawn
           ∙ sym (ap (λ (g : ℕ → ℕ). g p) (changed_other m.words lost j c ne))
 
 -- the words past all nodes stay where one node's words change

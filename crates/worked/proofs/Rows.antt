@@ -3,7 +3,7 @@ use Rattle.std.proofs.Common.{◌≡◌, ◌^◌, Bool, true, not, eqb, ltb, Lis
 use Rattle.code.specs.Code.{helps, power, total, moment, uncoupled}
 use Rattle.field.specs.ByteField.{times_x, times_bits, multiply}
 use Rattle.field.specs.ByteField.{power as byte_power}
-use Rattle.field.specs.PrimeField.{power as prime-power}
+use Rattle.field.specs.PrimeField.{power as prime_power}
 use Rattle.refusal.specs.Numbers.{number_of}
 use Rattle.refusal.specs.declared.reason.Refusal.TheVariants as reason
 use Rattle.shape.specs.Layout.{is_shape, row, column, node_at, digit, with_digit, companion_node, companion_place}
@@ -69,7 +69,7 @@ all_sound [] e = tt
 all_sound (r ∷ rs) e = let h = passed (all (tests r) ∷ test rs ∷ []) e in (sound r h.0, all_sound rs h.1.0)
 
 tested : test table ≡ true
-unfolding times_x times_bits multiply byte_power prime-power row column node_at digit with_digit companion_node companion_place count every listed power total moment uncoupled
+unfolding times_x times_bits multiply byte_power prime_power row column node_at digit with_digit companion_node companion_place count every listed power total moment uncoupled
 tested = refl
 
 pub table_holds : AllHold table

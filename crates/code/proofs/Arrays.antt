@@ -8,7 +8,7 @@ use Rattle.shape.proofs.Bounds.{Shaped, rows_positive}
 use Rattle.shape.proofs.Digits.{companion_bound, companion_place_bound}
 use Rattle.code.specs.Code.{Words, laid, moment, uncoupled, check, Checks, elements, Codeword}
 use Rattle.code.specs.Filling.{known}
-use Rattle.code.specs.Reading.{read, symbols}
+use Rattle.code.specs.Reading.{symbols}
 use Rattle.code.specs.Solving.{Codes}
 use Rattle.code.proofs.Places.{spot_within}
 use Rattle.code.proofs.Sums.{moment_same}

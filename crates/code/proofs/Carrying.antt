@@ -9,7 +9,7 @@ use Rattle.shape.proofs.Bounds.{Shaped, rows_positive}
 use Rattle.shape.proofs.Every.{every_from}
 use Rattle.shape.proofs.Rising.{rising_count}
 use Rattle.code.specs.Calls.{Rest, standing, good_standing, restore_refusal, encode_refusal, NoneAgrees, Restored, Encoded}
-use Rattle.code.specs.Code.{Words, laid, elements, Codeword, Agrees}
+use Rattle.code.specs.Code.{Words, laid, elements, Agrees}
 use Rattle.code.specs.Solving.{Codes, KeptFrom}
 use Rattle.code.specs.Steps.{Run}
 use Rattle.code.proofs.Arrays.{checks_same}

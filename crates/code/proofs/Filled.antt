@@ -1,5 +1,5 @@
 -- The planes of lower score, filled in place. Assumes nothing.
-use Rattle.std.proofs.Common.{◌≡◌, ℕ, ◌+◌, ◌*◌, ◌^◌, ◌<◌, ◌≤◌, Bool, true, false, ◌≢◌, ◌⊎◌, sym, refl, ap, ◌∙◌, ap₂, inl, inr, arith}
+use Rattle.std.proofs.Common.{◌≡◌, ℕ, ◌+◌, ◌*◌, ◌^◌, ◌<◌, ◌≤◌, Bool, true, false, ◌≢◌, ◌⊎◌, sym, refl, ◌∙◌, ap₂, inl, inr, arith}
 use Rattle.std.proofs.lemmas.Bool.{cases_eq, cases_Bool}
 use Rattle.field.specs.Field.{Arith, Laws}
 use Rattle.shape.specs.Layout.{row, column, digit, companion_node, companion_place}
@@ -10,7 +10,7 @@ use Rattle.code.specs.Code.{minus, check, Checks}
 use Rattle.code.specs.Filling.{score, of_pair, solution, turn}
 use Rattle.code.specs.Steps.{ScoreSolved, ScoreTurned}
 use Rattle.code.specs.Theorems.{Agree}
-use Rattle.code.proofs.Completion.{Turned, turned_by, turn_own, turn_both, turn_one, done_more, solution_solves}
+use Rattle.code.proofs.Completion.{turned_by, turn_own, turn_both, turn_one, done_more, solution_solves}
 use Rattle.code.proofs.Scores.{score_equal, score_bound}
 
 -- the first m checks hold in the planes of lower score, and A' is A at the nodes that are not erased

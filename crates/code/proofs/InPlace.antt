@@ -5,7 +5,7 @@ use Rattle.std.proofs.lemmas.Bool.{cases_order}
 use Rattle.field.specs.Field.{Arith, Laws}
 use Rattle.shape.specs.Outages.{rising}
 use Rattle.shape.proofs.Rising.{rising_below, rising_order}
-use Rattle.code.specs.Code.{minus, total, moment}
+use Rattle.code.specs.Code.{minus, total}
 use Rattle.code.specs.Reading.{read}
 use Rattle.code.specs.Solving.{KeptFrom, reads, points, Codes, Reduced, Divided}
 use Rattle.code.specs.Theorems.{Apart, Solves}

@@ -7,7 +7,7 @@ use Rattle.shape.specs.Outages.{count}
 use Rattle.code.specs.Filling.{score}
 use Rattle.code.specs.Code.{uncoupled, Checks}
 use Rattle.shape.proofs.Digits.{companion_bound, companion_place_bound}
-use Rattle.code.proofs.Ring.{minus, product_zero, same, minus_self}
+use Rattle.code.proofs.Ring.{product_zero, same, minus_self}
 use Rattle.code.proofs.Scores.{score_lower, score_equal}
 use Rattle.code.specs.Theorems.{Apart}
 use Rattle.code.proofs.Vandermonde.{only_zero}

@@ -1,19 +1,19 @@
 -- The words of one node, refilled from the planes that help it. Assumes nothing.
-use Rattle.std.proofs.Common.{◌≡◌, ℕ, ◌+◌, ◌*◌, ◌/◌, ◌^◌, ◌<◌, ◌≤◌, Bool, true, false, cond, eqb, ltb, ◌≢◌, ◌⊎◌, List, length, get_or, set, sym, refl, ap, ◌∙◌, subst, ap₂, inl, inr, ⊎_elim, mul-le-mul_right, arith}
+use Rattle.std.proofs.Common.{◌≡◌, ℕ, ◌+◌, ◌*◌, ◌/◌, ◌^◌, ◌<◌, ◌≤◌, true, false, cond, eqb, ltb, ◌≢◌, ◌⊎◌, List, length, get_or, set, sym, refl, ap, ◌∙◌, subst, ap₂, inl, inr, ⊎_elim, mul-le-mul_right, arith}
 use mathlib.Core.Path.{fun_ext}
 use lib.Arith.{digits_div}
 use Rattle.std.proofs.lemmas.List.{get_or-set_same, get_or-set_other}
 use Rattle.std.proofs.lemmas.Bool.{both_ways, cases_eq, cases_Bool, cases_lt, cond-true, cond-false, eqb-true, eq-eqb, ne_eqb, ltb-true}
 use Rattle.field.specs.Field.{Arith, Laws}
 use Rattle.shape.specs.Layout.{row, column, digit, with_digit, node_at, companion_node, companion_place}
-use Rattle.shape.specs.Outages.{every, among, rising}
+use Rattle.shape.specs.Outages.{among, rising}
 use Rattle.shape.proofs.Among.{among_found}
 use Rattle.shape.proofs.Bounds.{Shaped, rows_positive}
 use Rattle.shape.proofs.Digits.{digit_bound, row_bound, column_bound, node_bound, column_node, node_own, companion_back, companion_place_back, row_companion, column_companion, digit_companion, companion_bound, companion_place_bound, with_own}
 use Rattle.shape.proofs.Every.{every_at}
 use Rattle.shape.proofs.Rising.{rising_count}
 use Rattle.code.specs.Calls.{good_help, helper_codes, Others}
-use Rattle.code.specs.Code.{Words, laid, minus, moment, uncoupled, check, elements, helps, with_node, OnlyRefill, SameHelp}
+use Rattle.code.specs.Code.{Words, laid, minus, uncoupled, check, elements, helps, with_node, OnlyRefill, SameHelp}
 use Rattle.code.specs.Filling.{in_column, known, solution, solved_by, refill}
 use Rattle.code.specs.Reading.{read, symbols}
 use Rattle.code.specs.Steps.{Run, lacks, RefilledWhere, given, PlaneRefilled}

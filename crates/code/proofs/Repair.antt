@@ -5,7 +5,7 @@ use Rattle.std.proofs.lemmas.Bool.{cases_eq, cases_Bool, eqb-true, eqb-false, eq
 use Rattle.field.specs.Field.{Arith, Laws}
 use Rattle.shape.specs.Layout.{digit, node_at, row, column, companion_node, companion_place}
 use Rattle.shape.specs.Outages.{count}
-use Rattle.code.specs.Code.{moment, uncoupled}
+use Rattle.code.specs.Code.{uncoupled}
 use Rattle.code.specs.Theorems.{Helps, HelpChecks, AgreeHelp}
 use Rattle.shape.proofs.Digits.{row_bound, column_bound, node_own, row_companion, column_companion, digit_companion, digit_with_other, companion_bound, companion_place_bound, companion_back, companion_place_back}
 use Rattle.code.proofs.Ring.{minus, zero_sum, minus_back, minus_self, same, factor_zero, inverse_back}

@@ -1,5 +1,5 @@
 -- What the restored words are. Assumes nothing.
-use Rattle.std.proofs.Common.{◌≡◌, ℕ, ◌*◌, ◌^◌, ◌<◌, ◌≤◌, Bool, true, false, cond, not, eqb, ltb, ◌⊎◌, List, length, Some, None, Err, Option, Result, sym, refl, ap, ◌∙◌, subst, inl, inr, arith}
+use Rattle.std.proofs.Common.{◌≡◌, ℕ, ◌*◌, ◌^◌, ◌<◌, ◌≤◌, Bool, true, false, cond, not, eqb, ltb, ◌⊎◌, List, length, Some, None, Err, Option, sym, refl, ap, ◌∙◌, subst, inl, inr, arith}
 use Rattle.std.proofs.lemmas.Bool.{cases_Bool, cond-true, cond-false, eq-eqb, ne_eqb, lt-ltb, le-ltb, ltb-true, not-true, not_from_false, not_from_true}
 use Rattle.field.specs.Field.{Arith, Laws}
 use Rattle.refusal.specs.declared.reason.Refusal.{Refusal}
@@ -9,7 +9,7 @@ use Rattle.shape.proofs.Bounds.{Shaped, rows_positive}
 use Rattle.shape.proofs.Every.{every_at, every_from}
 use Rattle.shape.proofs.Rising.{rising_count}
 use Rattle.code.specs.Calls.{Rest, short, standing, good_standing, restore_refusal, NoneAgrees, Restored}
-use Rattle.code.specs.Code.{Words, laid, Checks, elements, Codeword, Agrees, OnlyAgrees}
+use Rattle.code.specs.Code.{Words, laid, Checks, elements, Agrees, OnlyAgrees}
 use Rattle.code.specs.Reading.{symbols}
 use Rattle.code.specs.Solving.{Codes}
 use Rattle.code.specs.Steps.{Cleared, Sound}

@@ -1,10 +1,9 @@
 -- The planes of one score, solved in place. Assumes nothing.
-use Rattle.std.proofs.Common.{◌≡◌, ℕ, ◌+◌, ◌*◌, ◌^◌, ◌<◌, ◌≤◌, Bool, true, false, cond, ◌≢◌, ◌⊎◌, sym, refl, ap, ◌∙◌, inl, inr, arith}
+use Rattle.std.proofs.Common.{◌≡◌, ℕ, ◌+◌, ◌*◌, ◌^◌, ◌<◌, ◌≤◌, Bool, true, false, ◌≢◌, ◌⊎◌, sym, refl, ap, ◌∙◌, inl, inr, arith}
 use mathlib.Core.Path.{fun_ext}
 use Rattle.std.proofs.lemmas.Bool.{cases_eq, cases_Bool, cond-true, cond-false}
 use Rattle.field.specs.Field.{Arith, Laws}
 use Rattle.shape.proofs.Bounds.{Shaped, rows_positive}
-use Rattle.code.specs.Code.{moment}
 use Rattle.code.specs.Filling.{score, known, solution, solved_by}
 use Rattle.code.specs.Steps.{lacks, PlaneSolved, ScoreSolved}
 use Rattle.code.proofs.Completion.{AgreeBelow, known_steady}

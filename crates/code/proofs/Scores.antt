@@ -1,8 +1,7 @@
 -- Counts, and the score of a companion's plane. Assumes nothing.
-use Rattle.std.proofs.Common.{◌≡◌, ℕ, ◌+◌, ◌*◌, ◌<◌, ◌≤◌, Bool, true, false, cond, ap, ◌∙◌, arith}
+use Rattle.std.proofs.Common.{◌≡◌, ℕ, ◌+◌, ◌*◌, ◌<◌, ◌≤◌, Bool, true, false, ap, ◌∙◌, arith}
 use Rattle.std.proofs.lemmas.Bool.{cond-true, cond-false}
 use Rattle.shape.specs.Layout.{digit, node_at, row, column, companion_node, companion_place}
-use Rattle.shape.specs.Outages.{count}
 use Rattle.shape.proofs.Counts.{bit, count_change, count_bound}
 use Rattle.code.specs.Filling.{score}
 use Rattle.shape.proofs.Digits.{row_bound, digit_companion, digit_with_other, node_own, column_bound}

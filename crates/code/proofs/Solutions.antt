@@ -1,9 +1,8 @@
 -- A solution in place is the only one. Assumes nothing.
-use Rattle.std.proofs.Common.{◌≡◌, ℕ, ◌+◌, ◌-◌, ◌<◌, ◌≤◌, true, List, length, get_or, drop, sym, ap, ◌∙◌, arith}
+use Rattle.std.proofs.Common.{◌≡◌, ℕ, ◌+◌, ◌<◌, ◌≤◌, true, List, length, get_or, drop, sym, ap, ◌∙◌, arith}
 use Rattle.std.proofs.lemmas.List.{ext_get_or, length-drop, get_or-drop}
 use Rattle.field.specs.Field.{Arith, Laws}
 use Rattle.shape.specs.Outages.{rising}
-use Rattle.code.specs.Code.{moment}
 use Rattle.code.specs.Calls.{Rest, Solution}
 use Rattle.code.specs.Solving.{KeptFrom, reads, points, Codes}
 use Rattle.code.specs.Theorems.{Solves}

@@ -1,12 +1,12 @@
 -- The uncoupled symbols of an array. Assumes nothing.
-use Rattle.std.proofs.Common.{◌≡◌, ℕ, zero, ◌<◌, Bool, true, false, cond, eqb, ◌≢◌, ◌⊎◌, sym, ap, ◌∙◌, ap₂, inl, inr}
+use Rattle.std.proofs.Common.{◌≡◌, ℕ, ◌<◌, eqb, ◌≢◌, ◌⊎◌, sym, ap, ◌∙◌, ap₂, inl, inr}
 use Rattle.std.proofs.lemmas.Bool.{cases_eq, eq-eqb, ne_eqb, cond-true, cond-false}
 use Rattle.field.specs.Field.{Arith, Laws}
 use Rattle.shape.specs.Layout.{digit, row, column, companion_node, companion_place}
 use Rattle.code.specs.Code.{moment, uncoupled}
 use Rattle.code.specs.Filling.{of_pair}
 use Rattle.shape.proofs.Digits.{row_companion, column_companion, digit_companion, companion_back, companion_place_back}
-use Rattle.code.proofs.Ring.{minus, exchange, product_neg, neg_of_sum, neg_unique, same, factor_zero, minus_apart, minus_back, minus_self, distrib_right, one_product, inverse_back, product_left_comm}
+use Rattle.code.proofs.Ring.{minus, exchange, product_neg, neg_of_sum, neg_unique, factor_zero, minus_apart, minus_back, minus_self, distrib_right, one_product, inverse_back, product_left_comm}
 use Rattle.code.proofs.Sums.{moment_same, moment_sum, moment_neg}
 
 module _ {E : Type 0} (f : Arith E) (laws : Laws f) where

@@ -1,10 +1,10 @@
 -- The prime field keeps the laws. Assumes nothing.
 use mathlib.Core.HLevel.{is_prop→PathP}
-use Rattle.std.specs.Prelude.{◌≡◌, ℕ, zero, suc, ◌+◌, ◌-◌, ◌*◌, ◌/◌, ◌%◌, ◌<◌, ◌≤◌, ◌≢◌, refl}
+use Rattle.std.specs.Prelude.{◌≡◌, ℕ, suc, ◌+◌, ◌-◌, ◌*◌, ◌/◌, ◌%◌, ◌<◌, ◌≤◌, ◌≢◌, refl}
 use Rattle.std.proofs.Common.{sym, ap, ◌∙◌, mod-eq_of_lt, add_comm, add_assoc, add-zero, mul_comm, mul_assoc, mul-one, mul-add, add-mul, div-add-mod', arith, lit≤}
 use Rattle.std.proofs.Math.Bridge.{le_prop}
 use Rattle.std.proofs.Math.Decide.{dec_lt}
-use Rattle.std.proofs.Math.Nat.{mod-mod, mod-add-mod, add-mod-mod, add-mod, mul-add-mod_self_right}
+use Rattle.std.proofs.Math.Nat.{mod-add-mod, add-mod-mod, add-mod, mul-add-mod_self_right}
 use Rattle.field.specs.Field.{Laws}
 use Rattle.field.specs.PrimeField.{power, residue, prime_arith}
 use Rattle.field.specs.declared.element.Residue.{Residue}

@@ -1,6 +1,5 @@
-use Rattle.std.proofs.Common.{ltb, length, get_or, sym, ap, arith}
+use Rattle.std.proofs.Common.{ltb, length, get_or, sym, arith}
 use Rattle.std.proofs.lemmas.Bool.{lt-ltb, le-ltb}
-use Rattle.shape.specs.Outages.{every}
 use Rattle.shape.proofs.Every.{every_more, every_missed, every_from}
 use Rattle.code.proofs.checking.all_codes.Goals as goal
 

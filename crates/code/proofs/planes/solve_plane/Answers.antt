@@ -1,4 +1,4 @@
-use Rattle.std.proofs.Common.{◌≡◌, ◌*◌, ◌^◌, true, length, sym, ap, subst, arith, length-take}
+use Rattle.std.proofs.Common.{◌≡◌, ◌*◌, ◌^◌, true, length, subst, arith, length-take}
 use Rattle.shape.specs.Listing.{outages}
 use Rattle.shape.specs.Outages.{rising}
 use Rattle.shape.proofs.Rising.{rising_below}

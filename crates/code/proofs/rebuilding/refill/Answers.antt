@@ -1,5 +1,5 @@
 use Rattle.std.proofs.Common.{◌≡◌, ℕ, ◌+◌, ◌*◌, ◌<◌, true, List, sym, ap, ◌∙◌, subst, arith}
-use Rattle.shape.specs.Layout.{column, row, digit, companion_place}
+use Rattle.shape.specs.Layout.{column, digit, companion_place}
 use Rattle.shape.specs.Listing.{outages}
 use Rattle.shape.specs.Outages.{among, rising}
 use Rattle.shape.proofs.Bounds.{shaped, rows_positive}

@@ -1,6 +1,6 @@
-use Rattle.std.proofs.Common.{◌≡◌, ◌*◌, ◌^◌, true, length, sym, subst, arith}
+use Rattle.std.proofs.Common.{◌≡◌, ◌*◌, ◌^◌, true, length, subst, arith}
 use Rattle.shape.specs.Listing.{outages}
-use Rattle.shape.specs.Outages.{among, count, rising}
+use Rattle.shape.specs.Outages.{among, rising}
 use Rattle.shape.proofs.Bounds.{shaped}
 use Rattle.shape.proofs.Rising.{rising_count}
 use Rattle.code.specs.Reading.{symbols}

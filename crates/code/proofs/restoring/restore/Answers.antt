@@ -1,4 +1,4 @@
-use Rattle.std.proofs.Common.{◌≡◌, ◌*◌, ◌^◌, true, false, sym, refl, ap, ◌∙◌, subst, ⊎_elim, arith}
+use Rattle.std.proofs.Common.{◌≡◌, ◌*◌, ◌^◌, true, false, sym, refl, ◌∙◌, subst, ⊎_elim, arith}
 use Rattle.refusal.specs.declared.reason.Refusal.TheVariants.{WorkSpace, NoSuchPlace, TooManyOut}
 use Rattle.std.proofs.lemmas.Bool.{both_ways, cases_Bool}
 use Rattle.shape.specs.Listing.{outages}
@@ -6,7 +6,6 @@ use Rattle.shape.specs.Outages.{rising}
 use Rattle.shape.proofs.Bounds.{shaped}
 use Rattle.code.specs.Calls.{first_codes, good_standing, standing}
 use Rattle.code.specs.Code.{laid}
-use Rattle.code.specs.Solving.{Codes}
 use Rattle.code.proofs.Codes.{front_codes, codes_at, codes_from}
 use Rattle.code.proofs.Restoration.{good_codes, codes_good, only_agrees, none_agrees, refusal_short, refusal_count, refusal_many, refusal_none, refused_early, refused_bad, refused_none}
 use Rattle.code.proofs.Main.{only_one_stands}

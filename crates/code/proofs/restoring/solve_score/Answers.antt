@@ -1,4 +1,4 @@
-use Rattle.std.proofs.Common.{◌≡◌, ℕ, ◌+◌, ◌*◌, ◌^◌, List, sym, ap, ◌∙◌, subst, arith}
+use Rattle.std.proofs.Common.{◌≡◌, ℕ, ◌+◌, ◌*◌, ◌^◌, List, sym, ◌∙◌, subst, arith}
 use Rattle.shape.specs.Listing.{outages}
 use Rattle.shape.specs.Outages.{among}
 use Rattle.shape.proofs.Bounds.{shaped}

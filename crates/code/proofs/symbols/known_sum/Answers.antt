@@ -1,8 +1,8 @@
-use Rattle.std.proofs.Common.{◌≡◌, ◌^◌, cond, sym, ap, ◌∙◌, ap₂, add-one}
+use Rattle.std.proofs.Common.{◌≡◌, ◌^◌, sym, ap, ◌∙◌, ap₂, add-one}
 use Rattle.std.proofs.lemmas.Bool.{cond-true, cond-false}
 use Rattle.shape.specs.Listing.{outages}
 use Rattle.shape.specs.Outages.{among}
-use Rattle.code.specs.Code.{moment, power, uncoupled}
+use Rattle.code.specs.Code.{moment, power}
 use Rattle.code.specs.Filling.{known}
 use Rattle.code.specs.Reading.{symbols}
 use Rattle.code.proofs.Sums.{moment_none, moment_more}

@@ -1,6 +1,6 @@
-use Rattle.std.proofs.Common.{◌≡◌, ◌^◌, true, false, eqb, sym, ap, ◌∙◌, ap₂}
+use Rattle.std.proofs.Common.{◌≡◌, ◌^◌, eqb, sym, ◌∙◌, ap₂}
 use Rattle.std.proofs.lemmas.Bool.{cond-true, cond-false, eq-eqb, ne_eqb}
-use Rattle.shape.specs.Layout.{row, column, digit, companion_node, companion_place}
+use Rattle.shape.specs.Layout.{row, column, digit}
 use Rattle.shape.proofs.Bounds.{shaped}
 use Rattle.code.specs.Code.{uncoupled}
 use Rattle.code.specs.Reading.{symbols}

@@ -1,4 +1,4 @@
-use Rattle.std.proofs.Common.{◌≡◌, ◌+◌, ◌*◌, ◌^◌, List, set, sym, subst, ap₂}
+use Rattle.std.proofs.Common.{◌≡◌, ◌+◌, ◌*◌, ◌^◌, set, sym, subst, ap₂}
 use Rattle.code.specs.Reading.{symbols}
 use Rattle.code.specs.Steps.{Sound, Wrote}
 use Rattle.code.proofs.Writes.{wrote, write_sound}

@@ -1,5 +1,5 @@
 use Rattle.std.proofs.Common.{◌≡◌, ◌^◌, ◌≤◌, false, ◌⊎◌, sym, ap, ◌∙◌, ap₂, inl, inr, arith}
-use Rattle.shape.specs.Layout.{row, column, digit, companion_node, companion_place}
+use Rattle.shape.specs.Layout.{row, column, digit, companion_node}
 use Rattle.shape.specs.Listing.{outages}
 use Rattle.shape.specs.Outages.{among}
 use Rattle.shape.proofs.Bounds.{shaped}

@@ -1,5 +1,5 @@
 // The calls that lines ask of an open vault.
-ghost use Rattle.std.specs.Prelude.{◌≡◌, ◌*◌, ◌^◌, [], length, IfOk, MatchResult};
+ghost use Rattle.std.specs.Prelude.{◌≡◌, ◌*◌, ◌^◌, [], length, IfOk, OnErr};
 ghost use Rattle.lines.specs.Requests.{requested, reads, recovers, repairs, stores};
 ghost use Rattle.console.specs.Session.{Served};
 
@@ -36,7 +36,8 @@ fn read<F: Field + Drop>(
     start: u16,
     count: u16,
 ) -> Result<Reply, AllocError>
-    ensures { MatchResult result (λ y. Served F.arith (reads start count) vault.old y vault.new) (λ _. vault.new ≡ vault.old) }
+    ensures served { IfOk result (λ y. Served F.arith (reads start count) vault.old y vault.new) }
+    ensures unserved { OnErr result (vault.new ≡ vault.old) }
 {
     let mut words = Vec::from_elem(heap, 0u16, usize::from(count))?;
     let answer = vault.read(usize::from(start), words.as_mut_slice());
@@ -59,7 +60,8 @@ fn store<F: Field + Drop>(
     vault: &mut Vault<F, TableRack>,
     message: &[u16],
 ) -> Result<Reply, AllocError>
-    ensures { MatchResult result (λ y. Served F.arith (stores message.now) vault.old y vault.new) (λ _. vault.new ≡ vault.old) }
+    ensures served { IfOk result (λ y. Served F.arith (stores message.now) vault.old y vault.new) }
+    ensures unserved { OnErr result (vault.new ≡ vault.old) }
 {
     let mut space = work_space(heap, vault.shape())?;
     let answer = vault.store(message, space.as_mut_slice());
@@ -72,7 +74,8 @@ fn repair<F: Field + Drop>(
     vault: &mut Vault<F, TableRack>,
     node: u16,
 ) -> Result<Reply, AllocError>
-    ensures { MatchResult result (λ y. Served F.arith (repairs node) vault.old y vault.new) (λ _. vault.new ≡ vault.old) }
+    ensures served { IfOk result (λ y. Served F.arith (repairs node) vault.old y vault.new) }
+    ensures unserved { OnErr result (vault.new ≡ vault.old) }
 {
     let mut space = work_space(heap, vault.shape())?;
     let answer = vault.repair(usize::from(node), space.as_mut_slice());
@@ -84,7 +87,8 @@ fn recover<F: Field + Drop>(
     heap: Global,
     vault: &mut Vault<F, TableRack>,
 ) -> Result<Reply, AllocError>
-    ensures { MatchResult result (λ y. Served F.arith recovers vault.old y vault.new) (λ _. vault.new ≡ vault.old) }
+    ensures served { IfOk result (λ y. Served F.arith recovers vault.old y vault.new) }
+    ensures unserved { OnErr result (vault.new ≡ vault.old) }
 {
     let mut space = work_space(heap, vault.shape())?;
     let answer = vault.recover(space.as_mut_slice());
@@ -97,7 +101,8 @@ pub fn call<F: Field + Drop>(
     vault: &mut Vault<F, TableRack>,
     command: Command,
 ) -> Result<Reply, AllocError>
-    ensures { MatchResult result (λ y. Served F.arith (requested command) vault.old y vault.new) (λ _. vault.new ≡ vault.old) }
+    ensures served { IfOk result (λ y. Served F.arith (requested command) vault.old y vault.new) }
+    ensures unserved { OnErr result (vault.new ≡ vault.old) }
 {
     match command {
         Command::Open(_, _, _) => Ok(plain(heap, None)),

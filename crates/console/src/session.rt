@@ -1,5 +1,5 @@
 // A vault on a table rack, driven by lines.
-ghost use Rattle.std.specs.Prelude.{◌≡◌, ℕ, ◌*◌, ◌^◌, true, false, List, ◌++◌, is_ok, IfOk, string_bytes, MatchResult};
+ghost use Rattle.std.specs.Prelude.{◌≡◌, ℕ, ◌*◌, ◌^◌, true, false, List, ◌++◌, is_ok, IfOk, string_bytes, MatchResult, OnOk, OnErr};
 ghost use Rattle.lines.specs.Printed.{printed};
 ghost use Rattle.lines.specs.Requests.{requested};
 ghost use Rattle.rack.specs.Model.{fresh};
@@ -83,7 +83,8 @@ impl Session {
     // Opens the vault, if the numbers are a shape.
     fn first(&mut self, kind: Kind, q: u16, t: u16) -> Result<Result<Answer, Refusal>, AllocError>
         requires { state_of self.old ≡ closed }
-        ensures { MatchResult result (λ x. (x ≡ opening q t) × (state_of self.new ≡ after_opening kind q t)) (λ _. state_of self.new ≡ closed) }
+        ensures opened { IfOk result (λ x. (x ≡ opening q t) × (state_of self.new ≡ after_opening kind q t)) }
+        ensures unopened { OnErr result (state_of self.new ≡ closed) }
     {
         let opened = Answer {
             filled: 0,
@@ -110,7 +111,8 @@ impl Session {
     // Replies before there is a vault: only a shape is taken.
     fn begin(&mut self, command: Command) -> Result<Reply, AllocError>
         requires { state_of self.old ≡ closed }
-        ensures { MatchResult result (λ y. Begun (requested command) y.answer y.words.items (state_of self.new)) (λ _. state_of self.new ≡ closed) }
+        ensures begun { IfOk result (λ y. Begun (requested command) y.answer y.words.items (state_of self.new)) }
+        ensures unbegun { OnErr result (state_of self.new ≡ closed) }
     {
         match command {
             Command::Open(kind, q, t) => {
@@ -123,7 +125,8 @@ impl Session {
 
     // Replies to a command.
     fn reply(&mut self, command: Command) -> Result<Reply, AllocError>
-        ensures { MatchResult result (λ y. Replied (requested command) (state_of self.old) y.answer y.words.items (state_of self.new)) (λ _. state_of self.new ≡ state_of self.old) }
+        ensures replied { IfOk result (λ y. Replied (requested command) (state_of self.old) y.answer y.words.items (state_of self.new)) }
+        ensures unreplied { OnErr result (state_of self.new ≡ state_of self.old) }
     {
         match &mut self.inner {
             Inner::Byte(v) => call(self.heap, v, command),
@@ -134,7 +137,8 @@ impl Session {
 
     // Answers one line, without its line end. Where memory is wanting, nothing is printed.
     pub fn answer(&mut self, line: &[u8], out: &mut String) -> Result<(), AllocError>
-        ensures { MatchResult result (λ _. ((bytes : List ℕ) × ((string_bytes out.new ≡ string_bytes out.old ++ bytes) × Answered (state_of self.old) line.now bytes (state_of self.new)))) (λ _. (string_bytes out.new ≡ string_bytes out.old) × Unprinted (state_of self.old) line.now (state_of self.new)) }
+        ensures answered { OnOk result ((bytes : List ℕ) × ((string_bytes out.new ≡ string_bytes out.old ++ bytes) × Answered (state_of self.old) line.now bytes (state_of self.new))) }
+        ensures unanswered { OnErr result ((string_bytes out.new ≡ string_bytes out.old) × Unprinted (state_of self.old) line.now (state_of self.new)) }
     {
         let Some(command) = parse(self.heap, line)? else {
             return print_bad(out);

@@ -44,14 +44,11 @@ fn not_joined<A: Rack + Drop, B: Rack + Drop>(
     }
 }
 
-// Two nodes with three places each, out and with words of 0.
-const BLANK: [u8; 20] = [
-    0xC5, 0x9D, 0, 0, 0, 0, 0, 0, 0, 0, 0xC5, 0x9D, 1, 0, 0, 0, 0, 0, 0, 0,
-];
-
 #[test]
 fn table_and_image(rt: HostRuntime) -> Result<(), Fail> {
-    let mut bytes = BLANK;
+    let mut bytes = [
+        0xC5, 0x9D, 0, 0, 0, 0, 0, 0, 0, 0, 0xC5, 0x9D, 1, 0, 0, 0, 0, 0, 0, 0,
+    ];
     let table = TableRack::new(rt.alloc(), 2, 3)?;
     two_and_two(&rt, table, ImageRack::over(&mut bytes, 3))?;
     assert!(rt; bytes[3] == 1 && bytes[4] == 7 && bytes[8] == 9);
@@ -60,7 +57,9 @@ fn table_and_image(rt: HostRuntime) -> Result<(), Fail> {
 
 #[test]
 fn image_and_table(rt: HostRuntime) -> Result<(), Fail> {
-    let mut bytes = BLANK;
+    let mut bytes = [
+        0xC5, 0x9D, 0, 0, 0, 0, 0, 0, 0, 0, 0xC5, 0x9D, 1, 0, 0, 0, 0, 0, 0, 0,
+    ];
     let table = TableRack::new(rt.alloc(), 2, 3)?;
     two_and_two(&rt, ImageRack::over(&mut bytes, 3), table)
 }

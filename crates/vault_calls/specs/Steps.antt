@@ -2,6 +2,7 @@
 use Rattle.std.specs.Prelude.{◌≡◌, ℕ, ◌+◌, ◌/◌, ◌<◌, Bool, true, cond, ◌&&◌, List, nat_eq, nat_lt}
 use Rattle.code.specs.Code.{Words, laid, helps}
 use Rattle.shape.specs.Outages.{count}
+use Rattle.rack.specs.Filled.{filled, with_draws}
 use Rattle.rack.specs.Model.{Model, risen}
 use Rattle.vault_calls.specs.declared.selection.Selection.{Selection}
 use Rattle.vault_calls.specs.declared.selection.Selection.TheVariants.{All, Helping}
@@ -11,6 +12,10 @@ abbrev pub takes : ℕ → Selection → ℕ → Bool
 takes q All p = true
 takes q (Helping i) p = helps q i p
 
+-- node i was drawn from k times
+abbrev pub drawn : Model → ℕ → ℕ → Model
+drawn m i k = with_draws m i k
+
 -- every standing node below n was drawn from k times
 abbrev pub drawn_below : Model → ℕ → ℕ → Model
 drawn_below m n k = record { nodes = m.nodes; places = m.places; flags = m.flags; words = m.words; meters = λ i. cond (nat_lt i n && m.flags i) (risen (m.meters i) k) (m.meters i) }
@@ -18,6 +23,10 @@ drawn_below m n k = record { nodes = m.nodes; places = m.places; flags = m.flags
 -- k words of the message were got from a start on, each from its node
 abbrev pub read_drawn : Model → ℕ → ℕ → ℕ → Model
 read_drawn m start places k = record { nodes = m.nodes; places = m.places; flags = m.flags; words = m.words; meters = λ i. risen (m.meters i) (count (λ j. nat_eq ((start + j) / places) i) k) }
+
+-- node i was written whole and raised
+abbrev pub written : Model → ℕ → (ℕ → ℕ) → Model
+written m i c = filled m i c
 
 -- the nodes below n that pass the test were written whole and raised
 abbrev pub written_below : Model → (ℕ → Bool) → Words → ℕ → Model

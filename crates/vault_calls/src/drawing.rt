@@ -1,10 +1,9 @@
 // Words are drawn from the standing nodes into the work space.
 ghost use Rattle.std.specs.Prelude.{◌≡◌, ◌*◌, ◌^◌, ◌<◌, ◌≤◌, true, false, ◌&&◌, length, Ok, ◌==◌, nat_lt};
 ghost use Rattle.code.specs.Code.{helps};
-ghost use Rattle.rack.specs.Filled.{with_draws};
 ghost use Rattle.shape.specs.Outages.{count};
 ghost use Rattle.vault_calls.specs.Calls.{wrong_size};
-ghost use Rattle.vault_calls.specs.Steps.{takes, drawn_below, Gathered};
+ghost use Rattle.vault_calls.specs.Steps.{takes, drawn, drawn_below, Gathered};
 
 use crate::selection::Selection;
 use rack::Rack;
@@ -41,7 +40,7 @@ fn draw_node<R: Rack>(
     requires stands { (R.model rack.old).flags node ≡ true }
     requires room { shape.q * shape.t * shape.q ^ shape.t ≤ length space.old }
     ensures accepted { result ≡ Ok tt }
-    ensures after { R.model rack.new ≡ with_draws (R.model rack.old) node (count (takes shape.q selection) (shape.q ^ shape.t)) }
+    ensures after { R.model rack.new ≡ drawn (R.model rack.old) node (count (takes shape.q selection) (shape.q ^ shape.t)) }
     ensures space { Gathered (shape.q ^ shape.t) (λ j p. (j == node) && takes shape.q selection p) (R.model rack.old).words space.old space.new }
     ensures stays { R.kept rack.old rack.new }
 {

@@ -1,11 +1,10 @@
 // Words are written from the work space into the rack.
 ghost use Rattle.std.specs.Prelude.{◌≡◌, ◌*◌, ◌^◌, ◌<◌, ◌≤◌, false, length, Ok};
 ghost use Rattle.code.specs.Code.{laid};
-ghost use Rattle.rack.specs.Filled.{filled};
 ghost use Rattle.shape.specs.Listing.{outages as list_of};
 ghost use Rattle.shape.specs.Outages.{among};
 ghost use Rattle.vault_calls.specs.Calls.{wrong_size};
-ghost use Rattle.vault_calls.specs.Steps.{written_below};
+ghost use Rattle.vault_calls.specs.Steps.{written, written_below};
 
 use rack::{Rack, fill_node};
 use refusal::Refusal;
@@ -22,7 +21,7 @@ pub fn write_node<R: Rack>(
     requires node { node < shape.q * shape.t }
     requires room { shape.q * shape.t * shape.q ^ shape.t ≤ length space.now }
     ensures accepted { result ≡ Ok tt }
-    ensures after { R.model rack.new ≡ filled (R.model rack.old) node (laid (shape.q ^ shape.t) space.now node) }
+    ensures after { R.model rack.new ≡ written (R.model rack.old) node (laid (shape.q ^ shape.t) space.now node) }
     ensures stays { R.kept rack.old rack.new }
 {
     let places = shape.places();

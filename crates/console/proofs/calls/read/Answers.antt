@@ -12,8 +12,11 @@ returns g c =
     let long = c.in_ok-words.ensures.len in
     let from : c.from-2.result ≡ c.args.start = search rules in
     let same : length before ≡ c.args.count = search rules in
-    let kept : length after ≡ words.len = search rules in (
-      c.read-answer.ensures.stays.0,
-      read_made v.shape.q v.shape.t (table_model v.rack) (table_model c.read-answer.new.self.rack) c.read-answer.result
-          c.from-2.result c.args.start c.args.count words.len before after (drop (length after) words.items) c.read-answer.ensures.call from same kept,
-    )
+    let kept : length after ≡ words.len = search rules in record {
+      served = (
+        c.read-answer.ensures.stays.0,
+        read_made v.shape.q v.shape.t (table_model v.rack) (table_model c.read-answer.new.self.rack) c.read-answer.result
+            c.from-2.result c.args.start c.args.count words.len before after (drop (length after) words.items) c.read-answer.ensures.call from same kept,
+      );
+      unserved = tt;
+    }

@@ -15,7 +15,7 @@ loop-i-preserved c =
     let to = continues_at text in
     elim c.if-text-i-eq10.branch [
       | then-text-i-eq10+in_ok-answer w ↦ (
-          let a = w.in_ok-answer.ensures in
+          let a = w.in_ok-answer.ensures.answered in
           let out' = string_bytes w.answer.new.out in
           let s' = state_of w.answer.new.self in
           let more = continues_line text start i out out' (between start i text) a.0 s s' c.loop-i-test.true w.if-text-i-eq10.true refl a.1.1 a.1.0 c.loop-i.invariant.1 in

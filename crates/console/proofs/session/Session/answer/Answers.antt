@@ -11,5 +11,6 @@ returns c =
     let command = c.in-Some.command in
     let reply = c.in_ok-reply.reply in
     let is : request line ≡ Some (requested command) = sym c.in_ok-command.ensures ∙ ap (option_map requested) c.in-Some.is in
-    printed_or_not c.print_reply.result (string_bytes c.args.out.now) (string_bytes c.print_reply.new.out) line (vec_items reply.words) (requested command) reply.answer
-    (state_of c.args.self.now) (state_of c.reply.new.self) is c.in_ok-reply.ensures c.print_reply.ensures
+    let both = printed_or_not c.print_reply.result (string_bytes c.args.out.now) (string_bytes c.print_reply.new.out) line (vec_items reply.words) (requested command) reply.answer
+    (state_of c.args.self.now) (state_of c.reply.new.self) is c.in_ok-reply.ensures.replied c.print_reply.ensures in
+    record { answered = both.0; unanswered = both.1 }

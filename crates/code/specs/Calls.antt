@@ -1,5 +1,5 @@
 -- What the public functions refuse, and what they leave. Assumes nothing.
-use Rattle.std.specs.Prelude.{◌≡◌, ℕ, ◌+◌, ◌-◌, ◌*◌, ◌^◌, ◌<◌, ◌≤◌, Bool, true, false, cond, not, ltb, ◌⊎◌, List, length, drop, Some, None, Ok, Err, Option, Result, ◌==◌, nat_lt, slice_index}
+use Rattle.std.specs.Prelude.{◌≡◌, ℕ, ◌+◌, ◌-◌, ◌*◌, ◌^◌, ◌<◌, ◌≤◌, Bool, true, false, cond, not, ◌⊎◌, List, length, drop, Some, None, Ok, Err, Option, Result, ◌==◌, nat_lt, slice_index}
 use Rattle.field.specs.Field.{Arith}
 use Rattle.refusal.specs.First.{first}
 use Rattle.refusal.specs.declared.reason.Refusal.{Refusal}
@@ -38,7 +38,7 @@ module _ (q t : ℕ) where
 module _ {E : Type 0} (f : Arith E) where
   -- whether the first n words are codes
   abbrev pub first_codes : List ℕ → ℕ → Bool
-  first_codes ws n = every (λ j. ltb (slice_index ws j) f.size) n
+  first_codes ws n = every (λ j. nat_lt (slice_index ws j) f.size) n
 
   -- whether every word is a code
   abbrev pub all_codes : List ℕ → Bool
@@ -69,7 +69,7 @@ module _ {E : Type 0} (f : Arith E) (q t : ℕ) where
   -- ---- restore
   -- every word of every standing node is a code
   abbrev pub good_standing : (stands : ℕ → Bool) → Words → Bool
-  good_standing stands w = every (λ i. cond (stands i) (every (λ p. ltb (w i p) f.size) (q ^ t)) true) (q * t)
+  good_standing stands w = every (λ i. cond (stands i) (every (λ p. nat_lt (w i p) f.size) (q ^ t)) true) (q * t)
 
   -- past the first refusals: a word is no code, or no codeword agrees
   abbrev pub NoneAgrees : (stands : ℕ → Bool) → Words → Refusal → Type 0

@@ -73,6 +73,6 @@ pub trait Field {
     fn point(i: usize) -> Self::Element
         ensures { result ≡ arith.point i };
 
-    // They keep the laws of a field.
+    // The parts keep the laws of a field.
     ghost lawful: { Laws arith };
 }

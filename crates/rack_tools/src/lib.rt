@@ -1,6 +1,8 @@
 // Work on whole nodes, of any rack and on lent images, under one name.
 #![tactic(auto)]
 
-pub use rack::{copy_node, fill_node, move_node};
-pub use rack_image::{fill_image, move_between_images};
-pub use rack_pair::{fill_pair, fill_rooms};
+pub mod images;
+pub mod whole_nodes;
+
+pub use images::{fill_image, fill_rooms, move_between_images};
+pub use whole_nodes::{copy_node, fill_node, fill_pair, move_node};

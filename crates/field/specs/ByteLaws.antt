@@ -1,9 +1,23 @@
 -- The laws of the byte field, over codes. Assumes nothing.
-use Rattle.std.specs.Prelude.{◌≡◌, ℕ, zero, suc, ◌+◌, ◌-◌, ◌*◌, ◌/◌, ◌%◌, ◌<◌, ◌≤◌, ◌⊎◌, bit_xor, slice_index, refl}
+use Rattle.std.specs.Prelude.{◌≡◌, ℕ, zero, suc, ◌+◌, ◌-◌, ◌*◌, ◌/◌, ◌%◌, ◌<◌, ◌≤◌, ◌⊎◌, bit_xor, cond, true, ◌==◌, refl}
 use Rattle.std.proofs.Common.{sym, ap, ap₂, ◌∙◌, subst, inl, inr, add_comm, add_assoc, zero-mul, mul-zero, suc-mul, arith}
+use Rattle.std.proofs.lemmas.Bool.{agree_below_at, eqb-true}
 use Rattle.field.specs.ByteField.{times_x, times_bits, multiply, power, x_times, x_to}
-use Rattle.field.specs.ByteTables.{exponents, exponent_at}
 use Rattle.field.specs.Poly.{multiply_powers, x_to_period}
+
+-- how often x is multiplied to v until that is a: at most n times
+unfoldable times_until : ℕ → ℕ → ℕ → ℕ
+times_until zero a v = 0
+times_until (suc n) a v = cond (v == a) 0 (suc (times_until n a (times_x v)))
+
+-- the exponent of a code other than 0
+abbrev log : ℕ → ℕ
+log a = times_until 255 a 1
+
+log_at : (a : ℕ) → 0 < a → a < 256 → x_to (log a) ≡ a
+unfolding x_times times_x times_until
+log_at zero p h = absurd (omega arith)
+log_at (suc a) p h = eqb-true _ _ (agree_below_at (λ i. x_to (log (suc i)) == suc i) (λ i. true) 255 a refl (omega arith))
 
 -- a code is zero or a power of x
 pub Shape : ℕ → Type 0
@@ -12,7 +26,7 @@ Shape a = (a ≡ 0) ⊎ ((i : ℕ) × (x_to i ≡ a))
 pub shape : (a : ℕ) → a < 256 → Shape a
 unfolding Shape
 shape zero h = inl refl
-shape (suc a) h = inr (slice_index exponents (suc a), exponent_at (suc a) (omega arith) h)
+shape (suc a) h = inr (log (suc a), log_at (suc a) (omega arith) h)
 
 bits_zero_l : (n b : ℕ) → times_bits n 0 b ≡ 0
 unfolding times_bits times_x
@@ -81,7 +95,7 @@ inverse_of i =
 
 pub multiply_inverse : (a : ℕ) → 0 < a → a < 256 → multiply a (power 254 a) ≡ 1
 multiply_inverse a p h =
-    subst (λ (c : ℕ). multiply c (power 254 c) ≡ 1) (exponent_at a p h) (inverse_of (slice_index exponents a))
+    subst (λ (c : ℕ). multiply c (power 254 c) ≡ 1) (log_at a p h) (inverse_of (log a))
 
 -- the inverse of x to the i
 pub inverse_power : (i : ℕ) → i < 255 → power 254 (x_to i) ≡ x_to (255 - i)

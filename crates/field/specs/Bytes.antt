@@ -1,29 +1,14 @@
 -- The byte field keeps the laws. Assumes nothing.
-use mathlib.Core.HLevel.{is_prop→PathP}
-use Rattle.std.specs.Prelude.{◌≡◌, ℕ, zero, suc, ◌%◌, ◌<◌, ◌≤◌, ◌≢◌, bit_xor, refl}
+use Rattle.std.specs.Prelude.{◌≡◌, ℕ, zero, suc, ◌%◌, ◌<◌, ◌≢◌, bit_xor, refl}
 use Rattle.std.proofs.Common.{sym, ap, ap₂, ◌∙◌, mod-eq_of_lt, arith, lit<, lit≤}
-use Rattle.std.proofs.Math.Bridge.{le_prop}
-use Rattle.std.proofs.Math.Decide.{dec_lt}
 use Rattle.std.specs.Int.Bits.{xor_assoc, xor_self, xor_zero_r}
 use Rattle.std.proofs.lemmas.Nat.{xor_comm, xor_lt}
-use Rattle.field.specs.ByteField.{times_x, times_bits, multiply, power, byte, byte_arith}
+use Rattle.field.specs.ByteField.{Byte, times_x, times_bits, multiply, power, byte, byte_arith}
+use Rattle.field.specs.Codes.{code_back, differ, of_code, positive}
 use Rattle.field.specs.Field.{Laws}
-use Rattle.field.specs.declared.element.Byte.{Byte}
 use Rattle.field.specs.ByteLaws.{multiply_comm, multiply_assoc, multiply_inverse}
 use Rattle.field.specs.Points.{point_apart, point_high}
 use Rattle.field.specs.Poly.{multiply_linear, multiply_below, multiply_one}
-
--- two elements with one code are one
-pub same : (a b : Byte) → a.value ≡ b.value → a ≡ b
-same a b e = λ i. record { value = e i; ok = is_prop→PathP (λ j. suc (e j) ≤ 256) (λ j. le_prop) a.ok b.ok i }
-
--- the code of the element of n is n
-pub code_byte : (n : ℕ) → n < 256 → (byte n).value ≡ n
-code_byte n h = mod-eq_of_lt h
-
--- the element of a code
-pub byte_code : (a : Byte) → byte a.value ≡ a
-byte_code a = same (byte a.value) a (mod-eq_of_lt a.ok)
 
 sum_below : (a b : Byte) → bit_xor a.value b.value < 256
 sum_below a b = xor_lt 8 a.value b.value a.ok b.ok
@@ -55,18 +40,11 @@ product_sum a b c =
     (ap (multiply a.value) (mod-eq_of_lt (sum_below b c)) ∙ multiply_linear a.value b.value c.value
     ∙ sym (ap₂ bit_xor (mod-eq_of_lt (product_below a b)) (mod-eq_of_lt (product_below a c))))
 
-pub positive : (a : Byte) → (a ≢ byte 0) → 0 < a.value
-positive a n = go (dec_lt 0 a.value)
-  where
-    go : Dec (0 < a.value) → 0 < a.value
-    go (yes p) = p
-    go (no q) = let e : a.value ≡ 0 = omega arith in absurd (n (same a (byte 0) e))
-
 product_inverse : (a : Byte) → (a ≢ byte 0) → byte (multiply a.value (power 254 a.value % 256)) ≡ byte 1
 product_inverse a n =
     ap byte
     (ap (multiply a.value) (mod-eq_of_lt (power_below 254 a.value a.ok))
-    ∙ multiply_inverse a.value (positive a n) a.ok)
+    ∙ multiply_inverse a.value (positive (lit< tt) a n) a.ok)
 
 inverse_zero : byte (power 254 0) ≡ byte 0
 unfolding power multiply times_bits times_x
@@ -74,31 +52,28 @@ inverse_zero = refl
 
 square : byte (multiply 2 2) ≡ byte 1 → ⊥
 unfolding multiply times_bits times_x
-square e = let z : ◌≡◌ {A = ℕ} 4 1 = ap (λ (x : Byte). x.value) e in omega arith
-
-nonzero : byte 2 ≡ byte 0 → ⊥
-nonzero e = let z : ◌≡◌ {A = ℕ} 2 0 = ap (λ (x : Byte). x.value) e in omega arith
+square = differ (lit< tt) 1 4 (lit< tt) (lit< tt)
 
 pub byte_laws : Laws byte_arith
 byte_laws = record {
   fits = lit≤ tt;
   code_below = λ a. a.ok;
-  code_of = code_byte;
-  of_code = byte_code;
+  code_of = code_back (lit< tt);
+  of_code = of_code (lit< tt);
   zero_code = refl;
   one_code = refl;
   sum_comm = λ a b. ap byte (xor_comm a.value b.value);
   sum_assoc = sum_assoc;
-  sum_zero = λ a. ap byte (xor_zero_r a.value) ∙ byte_code a;
+  sum_zero = λ a. ap byte (xor_zero_r a.value) ∙ of_code (lit< tt) a;
   sum_negative = λ a. ap byte (xor_self a.value);
   product_comm = λ a b. ap byte (multiply_comm a.value b.value a.ok b.ok);
   product_assoc = product_assoc;
-  product_one = λ a. ap byte (multiply_one a.value a.ok) ∙ byte_code a;
+  product_one = λ a. ap byte (multiply_one a.value a.ok) ∙ of_code (lit< tt) a;
   product_sum = product_sum;
   product_inverse = product_inverse;
   inverse_zero = inverse_zero;
-  coupling_zero = nonzero;
+  coupling_zero = differ (lit< tt) 0 2 (lit< tt) (lit< tt);
   coupling_square = square;
-  points_differ = point_apart byte (λ a. a.value) (λ n h. code_byte n (omega arith));
+  points_differ = point_apart byte (λ a. a.value) (λ n h. code_back (lit< tt) n (omega arith));
   points_end = point_high byte;
 }

@@ -1,11 +1,11 @@
 -- Polynomials over bits: the product is linear, and goes by powers of x. Assumes nothing.
-use Rattle.std.specs.Prelude.{◌≡◌, ℕ, zero, suc, ◌+◌, ◌-◌, ◌*◌, ◌/◌, ◌%◌, ◌^◌, ◌<◌, bit_xor, nat_eq, nat_lt, refl}
-use Rattle.std.proofs.Common.{sym, ap, ap₂, ◌∙◌, subst, zero-add, mul-one, mul-zero, zero-mul, add-zero, suc-add, mod-lt, pow-suc, arith, eqb→eq, ltb→lt, lit<}
+use Rattle.std.specs.Prelude.{◌≡◌, ℕ, zero, suc, ◌+◌, ◌-◌, ◌*◌, ◌/◌, ◌%◌, ◌^◌, ◌<◌, bit_xor, true, nat_eq, nat_lt, refl}
+use Rattle.std.proofs.Common.{sym, ap, ap₂, ◌∙◌, subst, zero-add, mul-one, mul-zero, zero-mul, add-zero, suc-add, mod-lt, pow-suc, arith, lit<}
 use Rattle.std.proofs.Math.Decide.{dec_lt}
 use Rattle.std.specs.Int.Bits.{xor_assoc, xor_self, xor_zero_r, xor_shifted}
+use Rattle.std.proofs.lemmas.Bool.{agree_below_at, eqb-true, ltb-true}
 use Rattle.std.proofs.lemmas.Nat.{xor_comm, xor_lt, xor_shr, xor_mod, xor_block}
 use Rattle.field.specs.ByteField.{times_x, times_bits, multiply, x_times, x_to}
-use Rattle.field.specs.Table.{below}
 
 -- (a + b) + (c + d) = (a + c) + (b + d)
 pub xor4 : (a b c d : ℕ) → bit_xor (bit_xor a b) (bit_xor c d) ≡ bit_xor (bit_xor a c) (bit_xor b d)
@@ -58,7 +58,7 @@ multiply_linear a b c = bits_linear 8 a b c
 -- products stay below 256
 x_below : (a : ℕ) → a < 256 → times_x a < 256
 unfolding times_x
-x_below a h = ltb→lt (times_x a) 256 (below (λ k. nat_lt (times_x k) 256) 256 tt a h)
+x_below a h = ltb-true _ _ (agree_below_at (λ k. nat_lt (times_x k) 256) (λ k. true) 256 a refl h)
 
 bit_times_below : (a c : ℕ) → c < 2 → a < 256 → a * c < 256
 bit_times_below a zero hc h = rw mul-zero (lit< tt)
@@ -105,7 +105,7 @@ multiply_x_low a b h =
 multiply_x_top : (a : ℕ) → a < 256 → multiply a 29 ≡ times_x (multiply a 128)
 unfolding multiply times_bits times_x
 multiply_x_top a h =
-    eqb→eq (multiply a 29) (times_x (multiply a 128)) (below (λ k. nat_eq (multiply k 29) (times_x (multiply k 128))) 256 tt a h)
+    eqb-true _ _ (agree_below_at (λ k. nat_eq (multiply k 29) (times_x (multiply k 128))) (λ k. true) 256 a refl h)
 
 times_x_128 : times_x 128 ≡ 29
 unfolding times_x
@@ -145,7 +145,7 @@ x_to_below n = x_times_below n 1 (lit< tt)
 
 pub multiply_one : (a : ℕ) → a < 256 → multiply a 1 ≡ a
 unfolding multiply times_bits times_x
-multiply_one a h = eqb→eq (multiply a 1) a (below (λ k. nat_eq (multiply k 1) k) 256 tt a h)
+multiply_one a h = eqb-true _ _ (agree_below_at (λ k. nat_eq (multiply k 1) k) (λ k. true) 256 a refl h)
 
 multiply_x_to : (a n : ℕ) → a < 256 → multiply a (x_to n) ≡ x_times n a
 unfolding x_times

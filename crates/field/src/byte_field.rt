@@ -1,33 +1,35 @@
 // The byte field: polynomials over bits, modulo hexadecimal 11D.
-ghost use Rattle.std.specs.Prelude.{◌≡◌, ℕ, ◌<◌, ◌≤◌};
-ghost use Rattle.field.specs.ByteField.{byte, byte_arith, multiply, power, x_to};
+ghost use Rattle.std.specs.Prelude.{◌≡◌, ◌<◌, refl};
+ghost use Rattle.field.specs.ByteField.{byte_arith, multiply, power, x_to};
 ghost use Rattle.field.specs.Bytes.{byte_laws};
 
 use crate::Field;
 use crate::element::Byte;
 use crate::exponents::EXPONENTS;
 use crate::powers::POWERS;
-use refusal::Refusal;
 
-fn power_of_x(e: usize) -> u8
+// The code of x to the e.
+fn power_of_x(e: usize) -> u16
     requires { e < 255 }
     ensures { result ≡ x_to e }
 {
-    POWERS[e]
+    u16::from(POWERS[e])
 }
 
-fn exponent(a: u8) -> usize
-    requires { 0 < a }
+// The exponent of an element that is not zero.
+fn exponent(a: Byte) -> usize
+    requires { 0 < a.value }
     ensures below { result < 255 }
-    ensures gives { x_to result ≡ a }
+    ensures gives { x_to result ≡ a.value }
 {
-    EXPONENTS[a as usize] as usize
+    EXPONENTS[a.value as usize] as usize
 }
 
-fn times(a: u8, b: u8) -> u8
-    ensures { result ≡ multiply a b }
+// The code of the product.
+fn times(a: Byte, b: Byte) -> u16
+    ensures { result ≡ multiply a.value b.value }
 {
-    if a == 0 || b == 0 {
+    if a.value == 0 || b.value == 0 {
         return 0;
     }
     let e = exponent(a) + exponent(b);
@@ -38,21 +40,15 @@ fn times(a: u8, b: u8) -> u8
     }
 }
 
-fn inverted(a: u8) -> u8
-    ensures { result ≡ power 254 a }
+// The code of the inverse.
+fn inverted(a: Byte) -> u16
+    ensures { result ≡ power 254 a.value }
 {
-    if a == 0 {
+    if a.value == 0 {
         return 0;
     }
     let e = exponent(a);
     if e == 0 { 1 } else { power_of_x(255 - e) }
-}
-
-// The element of a code.
-fn element_of(value: u8) -> Byte
-    ensures { result ≡ byte value }
-{
-    Byte { value }
 }
 
 #[derive(Clone, Copy)]
@@ -63,38 +59,30 @@ impl Field for ByteField {
 
     const SIZE: u32 = 256;
 
+    ghost SIZE = { 256 };
+
     const COUPLING: u16 = 2;
+
+    ghost COUPLING = { 2 };
 
     ghost arith = { byte_arith };
 
+    ghost sized = { refl };
+
+    ghost coupled = { refl };
+
     ghost lawful = { byte_laws };
 
-    fn codes() -> u32 {
-        Self::SIZE
-    }
-
-    fn element(word: u16) -> Result<Byte, Refusal> {
-        if word < 256 {
-            Ok(element_of(word as u8))
-        } else {
-            Err(Refusal::NoCode)
-        }
+    fn of(word: u16) -> Byte {
+        Byte::reduced(u32::from(word))
     }
 
     fn code(a: Byte) -> u16 {
-        u16::from(a.value)
-    }
-
-    fn zero() -> Byte {
-        element_of(0)
-    }
-
-    fn one() -> Byte {
-        element_of(1)
+        a.value
     }
 
     fn sum(a: Byte, b: Byte) -> Byte {
-        element_of(a.value ^ b.value)
+        Byte::reduced(u32::from(a.value ^ b.value))
     }
 
     fn negative(a: Byte) -> Byte {
@@ -102,26 +90,14 @@ impl Field for ByteField {
     }
 
     fn product(a: Byte, b: Byte) -> Byte {
-        element_of(times(a.value, b.value))
+        Byte::reduced(u32::from(times(a, b)))
     }
 
     fn inverse(a: Byte) -> Byte {
-        element_of(inverted(a.value))
-    }
-
-    fn coupling_code() -> u16 {
-        Self::COUPLING
-    }
-
-    fn coupling_element() -> Byte {
-        element_of(Self::COUPLING as u8)
+        Byte::reduced(u32::from(inverted(a)))
     }
 
     fn point(i: usize) -> Byte {
-        if i < 16 {
-            element_of(i as u8)
-        } else {
-            element_of(0)
-        }
+        Byte::small(i)
     }
 }

@@ -1,7 +1,7 @@
 // Finite fields whose elements are numbered by codes.
 #![tactic(auto)]
 
-ghost use Rattle.std.specs.Prelude.{◌≡◌, ◌<◌, ◌≤◌, MatchResult};
+ghost use Rattle.std.specs.Prelude.{◌≡◌, ℕ, ◌<◌, ◌≤◌, MatchResult};
 ghost use Rattle.field.specs.Field.{Arith, Laws};
 ghost use Rattle.refusal.specs.declared.reason.Refusal.TheVariants.{NoCode};
 
@@ -25,39 +25,33 @@ pub trait Field {
     // The number of codes.
     const SIZE: u32;
 
+    ghost SIZE: { ℕ };
+
     // The code of the coupling element.
     const COUPLING: u16;
+
+    ghost COUPLING: { ℕ };
 
     // The parts of the field.
     ghost arith: { Arith Self.Element };
 
-    // `SIZE`, with its meaning.
-    fn codes() -> u32
-        ensures { result ≡ arith.size };
+    // The element of a code; a word that is no code is some element, whichever the field takes.
+    fn of(word: u16) -> Self::Element
+        ensures { word < arith.size → result ≡ arith.of word };
 
-    // `COUPLING`, with its meaning.
-    fn coupling_code() -> u16
-        ensures { result ≡ arith.code arith.coupling };
-
-    // The element of a code; a word that is no code is refused.
-    fn element(word: u16) -> Result<Self::Element, Refusal>
-        ensures { MatchResult result (λ a. (word < arith.size) × (a ≡ arith.of word)) (λ e. (arith.size ≤ word) × (e ≡ NoCode)) };
-
+    // The code of an element.
     fn code(a: Self::Element) -> u16
         ensures { result ≡ arith.code a };
 
-    fn zero() -> Self::Element
-        ensures { result ≡ arith.zero };
-
-    fn one() -> Self::Element
-        ensures { result ≡ arith.one };
-
+    // The sum of two elements.
     fn sum(a: Self::Element, b: Self::Element) -> Self::Element
         ensures { result ≡ arith.sum a b };
 
+    // The element whose sum with this one is zero.
     fn negative(a: Self::Element) -> Self::Element
         ensures { result ≡ arith.negative a };
 
+    // The product of two elements.
     fn product(a: Self::Element, b: Self::Element) -> Self::Element
         ensures { result ≡ arith.product a b };
 
@@ -65,13 +59,60 @@ pub trait Field {
     fn inverse(a: Self::Element) -> Self::Element
         ensures { result ≡ arith.inverse a };
 
-    // The coupling element.
-    fn coupling_element() -> Self::Element
-        ensures { result ≡ arith.coupling };
-
     // The point of a number; above 15 it is zero.
     fn point(i: usize) -> Self::Element
         ensures { result ≡ arith.point i };
+
+    // `SIZE`, with its meaning.
+    fn codes() -> u32
+        ensures { result ≡ arith.size }
+    {
+        Self::SIZE
+    }
+
+    // `COUPLING`, with its meaning.
+    fn coupling_code() -> u16
+        ensures { result ≡ arith.code arith.coupling }
+    {
+        Self::COUPLING
+    }
+
+    // The element of a code; a word that is no code is refused.
+    fn element(word: u16) -> Result<Self::Element, Refusal>
+        ensures { MatchResult result (λ a. (word < arith.size) × (a ≡ arith.of word)) (λ e. (arith.size ≤ word) × (e ≡ NoCode)) }
+    {
+        if u32::from(word) < Self::SIZE {
+            Ok(Self::of(word))
+        } else {
+            Err(Refusal::NoCode)
+        }
+    }
+
+    // The element whose code is 0.
+    fn zero() -> Self::Element
+        ensures { result ≡ arith.zero }
+    {
+        Self::of(0)
+    }
+
+    // The element whose code is 1.
+    fn one() -> Self::Element
+        ensures { result ≡ arith.one }
+    {
+        Self::of(1)
+    }
+
+    // The coupling element.
+    fn coupling_element() -> Self::Element
+        ensures { result ≡ arith.coupling }
+    {
+        Self::of(Self::COUPLING)
+    }
+
+    // The constants are the field's own.
+    ghost sized: { SIZE ≡ arith.size };
+
+    ghost coupled: { COUPLING ≡ arith.code arith.coupling };
 
     // The parts keep the laws of a field.
     ghost lawful: { Laws arith };

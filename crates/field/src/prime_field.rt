@@ -1,27 +1,17 @@
 // The prime field: arithmetic modulo 257.
-ghost use Rattle.std.specs.Prelude.{◌≡◌, ℕ, ◌<◌, ◌≤◌};
-ghost use Rattle.field.specs.PrimeField.{power, prime_arith, residue};
+ghost use Rattle.std.specs.Prelude.{◌≡◌, refl};
+ghost use Rattle.field.specs.PrimeField.{power, prime_arith};
 ghost use Rattle.field.specs.Residues.{prime_laws};
 
 use crate::Field;
 use crate::element::Residue;
 use crate::inverses::INVERSES;
-use refusal::Refusal;
 
-fn inverted(a: u16) -> u16
-    requires { a < 257 }
-    ensures { result ≡ power 255 a }
+// The code of the inverse.
+fn inverted(a: Residue) -> u16
+    ensures { result ≡ power 255 a.value }
 {
-    INVERSES[a as usize]
-}
-
-// The element whose code is n modulo 257.
-fn reduced(n: u32) -> Residue
-    ensures { result ≡ residue n }
-{
-    Residue {
-        value: (n % 257) as u16,
-    }
+    INVERSES[a.value as usize]
 }
 
 #[derive(Clone, Copy)]
@@ -32,65 +22,46 @@ impl Field for PrimeField {
 
     const SIZE: u32 = 257;
 
+    ghost SIZE = { 257 };
+
     const COUPLING: u16 = 2;
+
+    ghost COUPLING = { 2 };
 
     ghost arith = { prime_arith };
 
+    ghost sized = { refl };
+
+    ghost coupled = { refl };
+
     ghost lawful = { prime_laws };
 
-    fn codes() -> u32 {
-        Self::SIZE
-    }
-
-    fn element(word: u16) -> Result<Residue, Refusal> {
-        if word < 257 {
-            Ok(reduced(u32::from(word)))
-        } else {
-            Err(Refusal::NoCode)
-        }
+    // This and `code` are the other field's too, each at its own element.
+    fn of(word: u16) -> Residue {
+        Residue::reduced(u32::from(word))
     }
 
     fn code(a: Residue) -> u16 {
         a.value
     }
 
-    fn zero() -> Residue {
-        reduced(0)
-    }
-
-    fn one() -> Residue {
-        reduced(1)
-    }
-
     fn sum(a: Residue, b: Residue) -> Residue {
-        reduced(u32::from(a.value) + u32::from(b.value))
+        Residue::reduced(u32::from(a.value) + u32::from(b.value))
     }
 
     fn negative(a: Residue) -> Residue {
-        reduced(257 - u32::from(a.value))
+        Residue::reduced(257 - u32::from(a.value))
     }
 
     fn product(a: Residue, b: Residue) -> Residue {
-        reduced(u32::from(a.value) * u32::from(b.value))
+        Residue::reduced(u32::from(a.value) * u32::from(b.value))
     }
 
     fn inverse(a: Residue) -> Residue {
-        reduced(u32::from(inverted(a.value)))
-    }
-
-    fn coupling_code() -> u16 {
-        Self::COUPLING
-    }
-
-    fn coupling_element() -> Residue {
-        reduced(u32::from(Self::COUPLING))
+        Residue::reduced(u32::from(inverted(a)))
     }
 
     fn point(i: usize) -> Residue {
-        if i < 16 {
-            reduced(i as u32)
-        } else {
-            reduced(0)
-        }
+        Residue::small(i)
     }
 }

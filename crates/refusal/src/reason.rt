@@ -1,18 +1,22 @@
 // Why a call was refused, and where an image is malformed.
-ghost use Rattle.std.specs.Prelude.{◌≡◌};
+ghost use Rattle.std.specs.Prelude.{◌≡◌, Some};
 ghost use Rattle.refusal.specs.Numbers.{number_of, cause_number};
+ghost use Rattle.refusal.specs.Words.{fault_words, refusal_words};
 
-// What is wrong with an image's byte.
-#[derive(Clone, Copy, PartialEq, Debug)]
+use std::error::Error;
+use std::fmt;
+
+// What is wrong with an image's byte, each under its number.
+#[derive(Clone, Copy, PartialEq, Eq, Debug)]
 pub enum Cause {
-    Length,
-    Mark,
-    Number,
-    Flag,
+    Length = 1,
+    Mark = 2,
+    Number = 3,
+    Flag = 4,
 }
 
 // Where an image is malformed: the room, the record, and the byte counted from the image's start.
-#[derive(Clone, Copy, PartialEq, Debug)]
+#[derive(Clone, Copy, PartialEq, Eq, Debug)]
 pub struct Fault {
     pub room: u8,
     pub record: usize,
@@ -21,7 +25,7 @@ pub struct Fault {
 }
 
 // Why a call was refused. A refused call changes nothing, except that `BadWord` and `NoCodeword` come after the words were drawn.
-#[derive(Clone, Copy, PartialEq, Debug)]
+#[derive(Clone, Copy, PartialEq, Eq, Debug)]
 pub enum Refusal {
     // The two numbers are no shape.
     Shape,
@@ -56,17 +60,13 @@ impl Cause {
     pub fn number(self) -> u8
         ensures { result ≡ cause_number self }
     {
-        match self {
-            Cause::Length => 1,
-            Cause::Mark => 2,
-            Cause::Number => 3,
-            Cause::Flag => 4,
-        }
+        self as u8
     }
 }
 
 impl Refusal {
     // The number of the refusal, which operators see.
+    // By a match: one refusal holds a fault, so no cast gives its number.
     pub fn number(self) -> u8
         ensures { result ≡ number_of self }
     {
@@ -87,3 +87,34 @@ impl Refusal {
         }
     }
 }
+
+// The cause's number, and the place of the byte.
+impl fmt::Display for Fault {
+    ghost output = { λ fault. Some (fault_words fault) };
+
+    fn fmt<W: fmt::Write>(&self, f: &mut fmt::Formatter<W>) -> fmt::Result {
+        let cause = self.cause.number();
+        let room = self.room;
+        let record = self.record;
+        let byte = self.byte;
+        write!(
+            f,
+            "cause {cause}: room {room}, record {record}, byte {byte}"
+        )
+    }
+}
+
+// The refusal's number, and where an image is malformed.
+impl fmt::Display for Refusal {
+    ghost output = { λ refusal. Some (refusal_words refusal) };
+
+    fn fmt<W: fmt::Write>(&self, f: &mut fmt::Formatter<W>) -> fmt::Result {
+        let number = self.number();
+        match self {
+            Refusal::Image(fault) => write!(f, "refused by {number}, {fault}"),
+            _ => write!(f, "refused by {number}"),
+        }
+    }
+}
+
+impl Error for Refusal {}

@@ -1,7 +1,8 @@
 -- What is among the numbers of a list. Assumes nothing.
 use Rattle.std.proofs.Common.{◌≡◌, ℕ, zero, suc, ◌<◌, true, false, cond, eqb, List, [], ◌∷◌, ◌++◌, length, get_or, sym, refl, ap, ◌∙◌, ⊎_elim, arith}
 use Rattle.std.proofs.lemmas.List.{get_or_push, length_push}
-use Rattle.std.proofs.lemmas.Bool.{both_ways, cases_Bool, cases_eq, cond-true, cond-false, eq-eqb, ne_eqb}
+use Rattle.std.specs.List.{list_any}
+use Rattle.std.proofs.lemmas.Bool.{both_ways, cases_eq, false_from_ne_true, cond-true, cond-false, eq-eqb, ne_eqb}
 use Rattle.shape.specs.Outages.{among}
 
 pub among_first : (j : ℕ) (js : List ℕ) (i : ℕ) → i ≡ j → among (j ∷ js) i ≡ true
@@ -22,7 +23,14 @@ among_found (j ∷ js) i e =
     ⊎_elim (λ h. (0, omega arith, sym h)) (λ ne. let r = among_found js i (sym (among_rest j js i ne) ∙ e) in (suc r.0, omega arith, r.2)) (cases_eq i j)
 
 pub among_none : (js : List ℕ) (i : ℕ) → ((k : ℕ) → k < length js → get_or js k 0 ≡ i → ⊥) → among js i ≡ false
-among_none js i h = ⊎_elim (λ e. let r = among_found js i e in absurd (h r.0 r.1 r.2)) (λ e. e) (cases_Bool (among js i))
+among_none js i h = false_from_ne_true (among js i) (λ e. let r = among_found js i e in h r.0 r.1 r.2)
+
+-- a search of the list finds what is among its numbers
+pub list_any_among : (js : List ℕ) (i : ℕ) → list_any (λ j. eqb j i) js ≡ among js i
+list_any_among [] i = refl
+list_any_among (j ∷ js) i =
+    ⊎_elim (λ e. rw (eq-eqb i j e, eq-eqb j i (sym e)))
+    (λ ne. rw (ne_eqb i j ne, ne_eqb j i (λ e. ne (sym e))) (list_any_among js i)) (cases_eq i j)
 
 -- one number more at the end
 pub among_push_same : (js : List ℕ) (i : ℕ) → among (js ++ i ∷ []) i ≡ true

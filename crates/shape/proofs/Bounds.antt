@@ -1,7 +1,7 @@
 -- Bounds on the numbers of a shape. Assumes nothing.
-use Rattle.std.proofs.Common.{◌≡◌, ℕ, ◌-◌, ◌*◌, ◌^◌, ◌<◌, ◌≤◌, Bool, true, false, cond, ◌&&◌, leb, sym, refl, ◌∙◌, ⊎_elim, mul-le-mul_right, mul-le-mul, mul-le-mul_left, arith}
+use Rattle.std.proofs.Common.{◌≡◌, ℕ, ◌-◌, ◌*◌, ◌^◌, ◌<◌, ◌≤◌, Bool, true, cond, ◌&&◌, leb, sym, refl, ◌∙◌, mul-le-mul_right, mul-le-mul, mul-le-mul_left, arith}
 use native.Mathlib.Nat.{pow-le-pow_right, one-le-pow}
-use Rattle.std.proofs.lemmas.Bool.{and_from, and_parts, cases_Bool, cond-true, leb-true, le-leb}
+use Rattle.std.proofs.lemmas.Bool.{and_from, and_parts, cond-true, leb-true, le-leb}
 use Rattle.shape.specs.declared.dimensions.Shape.{Shape}
 use Rattle.shape.specs.Layout.{is_shape}
 use Rattle.shape.specs.Outages.{every}
@@ -65,6 +65,3 @@ shape_parts q t e =
     let a = and_parts (leb 2 q && leb 2 t) (leb (q * t) 16) e in
     let b = and_parts (leb 2 q) (leb 2 t) a.0 in
     record { wide = leb-true 2 q b.0; deep = leb-true 2 t b.1; few = leb-true (q * t) 16 a.1 }
-
-pub no_shape : (q t : ℕ) → (Shaped q t → ⊥) → is_shape q t ≡ false
-no_shape q t h = ⊎_elim (λ e. absurd (h (shape_parts q t e))) (λ e. e) (cases_Bool (is_shape q t))

@@ -1,5 +1,5 @@
 -- Digits of a place, and companions. Assumes nothing.
-use Rattle.std.proofs.Common.{◌≡◌, ℕ, zero, suc, ◌+◌, ◌*◌, ◌/◌, ◌%◌, ◌^◌, ◌<◌, ◌≤◌, ◌≢◌, sym, refl, ap, ◌∙◌, mul-le-mul_right, mod-lt, div-lt_iff_lt-mul, pow-suc, div-add-mod', div-mul-le_self, div-one, add-one, arith}
+use Rattle.std.proofs.Common.{◌≡◌, ℕ, zero, suc, ◌+◌, ◌*◌, ◌/◌, ◌%◌, ◌^◌, ◌<◌, ◌≤◌, ◌≢◌, min, sym, refl, ap, ◌∙◌, mul-le-mul_right, mod-lt, div-lt_iff_lt-mul, pow-suc, div-add-mod', div-mul-le_self, div-one, arith}
 use native.Mathlib.Nat.{pow-zero, pow-succ', pow-le-pow_left, pow-le-pow_right, div-eq_of_lt, zero-mod, div-div-eq-div-mul, mod-le}
 use lib.Arith.{digits_lt, digits_div, digits_mod}
 use Rattle.shape.specs.Layout.{digit, with_digit, node_at, row, column, companion_node, companion_place}
@@ -68,21 +68,19 @@ module _ (q : ℕ) (pos : 0 < q) where
   with_bound p (suc y) x (suc t) hx hy hp =
       rw (with_suc, pow-suc) (digits_lt {m = q ^ t} (with_bound (p / q) y x t hx (omega arith) ((div-lt_iff_lt-mul pos).1 (rw pow-suc at hp))) (mod-lt p pos))
 
-  -- places below 2 ^ 64 have no digits from 64 on
-  pub digit_high : (p y : ℕ) → 2 ≤ q → p < 2 ^ 64 → 64 ≤ y → digit q p y ≡ 0
+  -- a place has no digit in a column whose weight is above it
+  digit_none : (p y : ℕ) → p < q ^ y → digit q p y ≡ 0
   unfolding digit
-  digit_high p y wide hp hy =
-      let a : 2 ^ 64 ≤ 2 ^ y = pow-le-pow_right (omega arith) hy in
-      let b = pow-le-pow_left wide y in
-      let e : p / q ^ y ≡ 0 = div-eq_of_lt (omega arith) in
-      ap (λ x. x % q) e ∙ zero-mod q
+  digit_none p y h = ap (λ x. x % q) (div-eq_of_lt h) ∙ zero-mod q
 
-  -- the digits up to y taken off, and one more
-  pub rest_none : (p : ℕ) → p ≡ p / q ^ 0
-  rest_none p = rw (pow-zero, div-one)
+  -- weights, as far as they are below 2 ^ 64
+  pub weight_fits : (y : ℕ) → 2 ≤ q → q ^ min y 64 < 2 ^ 64 → min y 64 ≡ y
+  weight_fits y wide h =
+      let a : 64 ≤ y → ⊥ = λ l. let e : min y 64 ≡ 64 = omega arith in let b : q ^ 64 < 2 ^ 64 = rw e at h in let d = pow-le-pow_left wide 64 in omega arith in
+      omega arith
 
-  pub rest_more : (p y r : ℕ) → r ≡ p / q ^ y → r / q ≡ p / q ^ (y + 1)
-  rest_more p y r e = ap (λ x. x / q) e ∙ div-div-eq-div-mul p (q ^ y) q ∙ ap (λ x. p / x) (sym (pow-suc q y)) ∙ ap (λ x. p / q ^ x) (sym (add-one y))
+  pub digit_high : (p y : ℕ) → p < 2 ^ 64 → (q ^ min y 64 < 2 ^ 64 → ⊥) → digit q p y ≡ 0
+  digit_high p y low h = let a : q ^ min y 64 ≤ q ^ y = pow-le-pow_right pos (omega arith) in digit_none p y (omega arith)
 
   -- nodes
   pub row_bound : (i : ℕ) → row q i < q

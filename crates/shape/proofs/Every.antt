@@ -1,6 +1,6 @@
 -- What a test of all numbers below a bound says. Assumes nothing.
 use Rattle.std.proofs.Common.{◌≡◌, ℕ, zero, suc, ◌+◌, ◌<◌, Bool, true, false, cond, refl, ap, ◌∙◌, ⊎_elim, add-one, arith}
-use Rattle.std.proofs.lemmas.Bool.{both_ways, cases_Bool, cases_eq, cond-true, false≢true}
+use Rattle.std.proofs.lemmas.Bool.{both_ways, cases_eq, cond-true, false≢true, false_from_ne_true}
 use Rattle.shape.specs.Outages.{every}
 
 both : (a b : Bool) → cond a b false ≡ true → (a ≡ true) × (b ≡ true)
@@ -21,7 +21,7 @@ every_from test (suc n) h = cond-true (every test n) (test n) false (every_from 
 
 -- not all pass
 pub every_missed : (test : ℕ → Bool) (n i : ℕ) → i < n → test i ≡ false → every test n ≡ false
-every_missed test n i l e = ⊎_elim (λ k. absurd (both_ways (test i) e (every_at test n k i l))) (λ k. k) (cases_Bool (every test n))
+every_missed test n i l e = false_from_ne_true (every test n) (λ k. both_ways (test i) e (every_at test n k i l))
 
 -- one number more
 pub every_more : (test : ℕ → Bool) (n : ℕ) → every test n ≡ true → test n ≡ true → every test (n + 1) ≡ true

@@ -1,6 +1,5 @@
 pub mod Among
 pub mod Bounds
-pub mod Companions
 pub mod Counts
 pub mod Digits
 pub mod Every

@@ -1,7 +1,7 @@
 -- Strictly rising lists. Assumes nothing.
-use Rattle.std.proofs.Common.{◌≡◌, ℕ, zero, suc, ◌+◌, ◌-◌, ◌<◌, ◌≤◌, true, false, ltb, List, [], ◌∷◌, ◌++◌, length, get_or, take, sym, refl, ap, ◌∙◌, ⊎_elim, add-one, arith}
+use Rattle.std.proofs.Common.{◌≡◌, ℕ, zero, suc, ◌+◌, ◌-◌, ◌<◌, ◌≤◌, Bool, true, false, ltb, List, [], ◌∷◌, ◌++◌, length, get_or, take, sym, refl, ap, ◌∙◌, ⊎_elim, add-one, arith}
 use Rattle.std.proofs.lemmas.List.{length_push, get_or_push, get_or_append_left, length-take-le, get_or-take, take_more}
-use Rattle.std.proofs.lemmas.Bool.{and_from, and_parts, both_ways, cases_Bool, cases_eq, ltb-true, lt-ltb}
+use Rattle.std.proofs.lemmas.Bool.{and_from, and_parts, both_ways, cases_Bool, cases_eq, false_from_ne_true, ltb-true, lt-ltb}
 use Rattle.shape.specs.Outages.{count, every, rising, among, Distinct}
 use Rattle.shape.proofs.Among.{among_found, among_none}
 use Rattle.shape.proofs.Counts.{count_among}
@@ -71,7 +71,7 @@ pub rising_member : (n : ℕ) (xs : List ℕ) → rising n xs ≡ true → (i : 
 rising_member n xs e i h = let r = among_found xs i h in let a = rising_below n xs e r.0 r.1 in omega (arith, r.2)
 
 pub rising_high : (n : ℕ) (xs : List ℕ) → rising n xs ≡ true → (i : ℕ) → n ≤ i → among xs i ≡ false
-rising_high n xs e i h = ⊎_elim (λ t. absurd (let a = rising_member n xs e i t in omega arith)) (λ f. f) (cases_Bool (among xs i))
+rising_high n xs e i h = false_from_ne_true (among xs i) (λ t. let a = rising_member n xs e i t in omega arith)
 
 -- a front of a rising list
 pub rising_take : (n k : ℕ) (xs : List ℕ) → k ≤ length xs → rising n xs ≡ true → rising n (take k xs) ≡ true
@@ -84,7 +84,7 @@ rising_take n k xs h e =
 pub rising_refused : (n k : ℕ) (xs : List ℕ) → k < length xs → rising n (take k xs ++ get_or xs k 0 ∷ []) ≡ false → rising n xs ≡ false
 rising_refused n k xs h e =
     let m : k + 1 ≤ length xs = omega arith in
-    ⊎_elim (λ r. absurd (both_ways (rising n (take (k + 1) xs)) (ap (rising n) (take_more xs k 0 h) ∙ e) (rising_take n (k + 1) xs m r))) (λ r. r) (cases_Bool (rising n xs))
+    false_from_ne_true (rising n xs) (λ r. both_ways (rising n (take (k + 1) xs)) (ap (rising n) (take_more xs k 0 h) ∙ e) (rising_take n (k + 1) xs m r))
 
 -- one number more
 module _ (n : ℕ) (xs : List ℕ) (x : ℕ) where
@@ -103,6 +103,10 @@ module _ (n : ℕ) (xs : List ℕ) (x : ℕ) where
       ⊎_elim (λ k. let b = at (j + 1) k in let g : get_or xs (length xs - 1) 0 ≡ get_or xs j 0 = (let s : length xs - 1 ≡ j = omega arith in ap (λ w. get_or xs w 0) s) in let d = last (omega arith) in omega arith)
       (λ ne. let b = before (j + 1) (omega arith) in let d = rising_next n xs e j (omega arith) in omega arith) (cases_eq (j + 1) (length xs)))
 
+  -- the number is the bound that the list was below
+  pub rising_push_bound : rising x xs ≡ true → x < n → rising n (xs ++ x ∷ []) ≡ true
+  rising_push_bound e low = rising_push (rising_wider x n xs (omega arith) e) low (λ l. rising_below x xs e (length xs - 1) (omega arith))
+
   -- what the number has to be
   pub rising_push_below : rising n (xs ++ x ∷ []) ≡ true → x < n
   rising_push_below e = let m = length_push xs x in let a = rising_below n (xs ++ x ∷ []) e (length xs) (omega arith) in let b = at (length xs) refl in omega arith
@@ -116,14 +120,13 @@ module _ (n : ℕ) (xs : List ℕ) (x : ℕ) where
       let c = before (length xs - 1) i in
       omega arith
 
-  pub rising_push_not : (rising n (xs ++ x ∷ []) ≡ true → ⊥) → rising n (xs ++ x ∷ []) ≡ false
-  rising_push_not h = ⊎_elim (λ e. absurd (h e)) (λ e. e) (cases_Bool (rising n (xs ++ x ∷ [])))
-
   pub rising_push_high : n ≤ x → rising n (xs ++ x ∷ []) ≡ false
-  rising_push_high h = rising_push_not (λ e. let a = rising_push_below e in omega arith)
+  rising_push_high h = false_from_ne_true (rising n (xs ++ x ∷ [])) (λ e. let a = rising_push_below e in omega arith)
 
-  pub rising_push_is : rising n xs ≡ true → x < n → 0 < length xs → ltb (get_or xs (length xs - 1) 0) x ≡ rising n (xs ++ x ∷ [])
-  rising_push_is e low some =
-      ⊎_elim (λ t. t ∙ sym (rising_push e low (λ l. ltb-true (get_or xs (length xs - 1) 0) x t)))
-      (λ f. f ∙ sym (rising_push_not (λ r. both_ways (ltb (get_or xs (length xs - 1) 0) x) f (lt-ltb (get_or xs (length xs - 1) 0) x (rising_push_after r some)))))
-      (cases_Bool (ltb (get_or xs (length xs - 1) 0) x))
+  -- a test that holds where the list is empty, and else says whether its last number is below the new one
+  pub rising_push_is : rising n xs ≡ true → x < n → (r : Bool) → (length xs ≡ 0 → r ≡ true) → (0 < length xs → r ≡ ltb (get_or xs (length xs - 1) 0) x) → r ≡ rising n (xs ++ x ∷ [])
+  rising_push_is e low r none some =
+      ⊎_elim (λ z. none z ∙ sym (rising_push e low (λ l. absurd (omega arith))))
+      (λ nz. let l : 0 < length xs = omega arith in some l ∙ ⊎_elim (λ t. t ∙ sym (rising_push e low (λ h. ltb-true (get_or xs (length xs - 1) 0) x t)))
+      (λ f. f ∙ sym (false_from_ne_true (rising n (xs ++ x ∷ [])) (λ h. both_ways (ltb (get_or xs (length xs - 1) 0) x) f (lt-ltb (get_or xs (length xs - 1) 0) x (rising_push_after h l)))))
+      (cases_Bool (ltb (get_or xs (length xs - 1) 0) x))) (cases_eq (length xs) 0)

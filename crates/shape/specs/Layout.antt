@@ -1,6 +1,6 @@
 -- How the nodes and the places of a shape are numbered. A shape has q rows and t columns of nodes, and q ^ t places in each node.
 -- A place stands for a plane of the code; its digits in base q, one for each column, are the plane's coordinates. Assumes nothing.
-use Rattle.std.specs.Prelude.{ℕ, ◌+◌, ◌-◌, ◌*◌, ◌/◌, ◌%◌, ◌^◌, Bool, ◌&&◌, nat_le}
+use Rattle.std.specs.Prelude.{ℕ, ◌+◌, ◌-◌, ◌*◌, ◌/◌, ◌%◌, ◌^◌, Bool, ◌&&◌, ◌==◌, nat_le}
 
 -- q rows and t columns are a shape: each at least 2, and at most 16 nodes
 abbrev pub is_shape : ℕ → ℕ → Bool
@@ -31,3 +31,7 @@ companion_node q i p = node_at q (digit q p (column q i)) (column q i)
 
 unfoldable pub companion_place : (q i p : ℕ) → ℕ
 companion_place q i p = with_digit q p (column q i) (row q i)
+
+-- place p helps to repair node i: its digit in the node's column is the node's row
+abbrev pub helps : (q i p : ℕ) → Bool
+helps q i p = digit q p (column q i) == row q i

@@ -1,7 +1,9 @@
 // How the nodes and the places of a shape are numbered.
-ghost use Rattle.std.specs.Prelude.{◌≡◌, ℕ, ◌-◌, ◌*◌, ◌^◌, ◌<◌, true, false, MatchResult};
+#![tactic(auto, unfolding(crate::specs::Layout::row, crate::specs::Layout::column, crate::specs::Layout::node_at))]
+
+ghost use Rattle.std.specs.Prelude.{◌≡◌, ◌-◌, ◌*◌, ◌^◌, ◌<◌, true, false, MatchResult};
 ghost use Rattle.refusal.specs.declared.reason.Refusal.TheVariants as reason;
-ghost use Rattle.shape.specs.Layout.{is_shape, row, column, digit, companion_node, companion_place};
+ghost use Rattle.shape.specs.Layout.{is_shape, row, column, digit, node_at, with_digit, companion_node, companion_place, helps};
 
 use crate::dimensions::Shape;
 use refusal::Refusal;
@@ -78,14 +80,39 @@ impl Shape {
     pub fn digit(self, place: usize, column: usize) -> usize
         ensures { result ≡ digit self.q place column }
     {
-        if column >= 64 {
-            return 0;
+        // By a match, in which the weight has a name of which it is proved that it is not 0.
+        match self.q.checked_pow(column.min(64) as u32) {
+            Some(weight) => place / weight % self.q,
+            // The weight is above every place.
+            None => 0,
         }
-        let mut rest = place;
-        for _ in 0..column {
-            rest = rest / self.q;
-        }
-        rest % self.q
+    }
+
+    // Whether a place helps to repair a node: its digit in the node's column is the node's row.
+    pub fn helps(self, node: usize, place: usize) -> bool
+        ensures { result ≡ helps self.q node place }
+    {
+        self.digit(place, self.column(node)) == self.row(node)
+    }
+
+    // The node in a row of a column.
+    fn node_at(self, row: usize, column: usize) -> usize
+        requires in_rows { row < self.q }
+        requires in_columns { column < self.t }
+        ensures { result ≡ node_at self.q row column }
+    {
+        column * self.q + row
+    }
+
+    // A place with another digit in a column.
+    fn with_digit(self, place: usize, column: usize, digit: usize) -> usize
+        requires in_node { place < self.q ^ self.t }
+        requires in_columns { column < self.t }
+        requires in_base { digit < self.q }
+        ensures { result ≡ with_digit self.q place column digit }
+    {
+        let weight = self.q.pow(column as u32);
+        place - self.digit(place, column) * weight + digit * weight
     }
 
     // The node and the place that a node is coupled with at a place.
@@ -95,10 +122,11 @@ impl Shape {
         if node >= self.nodes() || place >= self.places() {
             return Err(Refusal::NoSuchPlace);
         }
-        let y = self.column(node);
-        let z = self.digit(place, y);
-        let weight = self.q.pow(y as u32);
-        let other = place - z * weight + self.row(node) * weight;
-        Ok((y * self.q + z, other))
+        let column = self.column(node);
+        let digit = self.digit(place, column);
+        Ok((
+            self.node_at(digit, column),
+            self.with_digit(place, column, self.row(node)),
+        ))
     }
 }

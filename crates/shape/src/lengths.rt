@@ -1,4 +1,4 @@
-// How many nodes a list of nodes that are out knows of, and how many it holds.
+// How many nodes a list of nodes that are out knows of, and which are out.
 ghost use Rattle.std.specs.Prelude.{◌≡◌, length};
 ghost use Rattle.shape.specs.Listing.{outages};
 
@@ -12,10 +12,17 @@ impl OutageList {
         self.count
     }
 
+    // The nodes that are out, rising.
+    pub fn as_slice(&self) -> &[usize]
+        ensures { result.now ≡ outages self.now }
+    {
+        &self.numbers[..self.len]
+    }
+
     // How many nodes are out.
     pub fn len(&self) -> usize
         ensures { result ≡ length (outages self.now) }
     {
-        self.len
+        self.as_slice().len()
     }
 }

@@ -3,6 +3,8 @@ ghost use Rattle.std.specs.Prelude.{◌≡◌, ◌≤◌, true, take};
 ghost use Rattle.shape.specs.Outages.{rising};
 
 // Strictly rising node numbers below the number of nodes. It may be empty, or hold all of them.
+// In fixed memory, and copied as plain data: so an array with a length, and no vector.
+// No equality is derived, since numbers past the length are no part of the list.
 #[derive(Clone, Copy)]
 pub struct OutageList {
     // how many nodes there are, out or not

@@ -1,20 +1,22 @@
-use Rattle.std.proofs.Common.{◌≡◌, ◌/◌, ◌%◌, ◌^◌, sym, ap, ◌∙◌, arith}
+use Rattle.std.proofs.Common.{◌≡◌, ◌/◌, ◌%◌, ◌^◌, ap, sym, arith}
+use native.Mathlib.Nat.{one-le-pow}
 use Rattle.shape.specs.Layout.{digit}
-use Rattle.shape.proofs.Digits.{digit_high, rest_none, rest_more}
+use Rattle.shape.proofs.Bounds.{shaped, rows_positive}
+use Rattle.shape.proofs.Digits.{weight_fits, digit_high}
 use Rattle.shape.proofs.dimensions.Shape.digit.Goals as goal
 
-pub returns-then-column-ge64 : goal.returns-then-column-ge64
-returns-then-column-ge64 c = let s = c.args.self in sym (digit_high s.q (omega arith) c.args.place c.args.column s.wide (omega arith) c.if-column-ge64.true)
+pub nonzero_div-result : goal.nonzero_div-result
+nonzero_div-result c = omega (arith, one-le-pow c.min.result c.args.self.q (rows_positive (shaped c.args.self)), c.in-Some.ensures)
 
-pub loop-init : goal.loop-init
-loop-init c = rest_none c.args.self.q (omega arith) c.args.place
-
-pub loop-preserved : goal.loop-preserved
-loop-preserved c = rest_more c.args.self.q (omega arith) c.args.place c.loop.counter c.loop.rest c.loop.invariant
-
-pub returns : goal.returns
+pub returns-in-Some : goal.returns-in-Some
 unfolding digit
-returns c =
+returns-in-Some c =
     let q = c.args.self.q in
-    let e : c.loop.counter ≡ c.args.column = omega arith in
-    ap (λ r. r % q) (c.loop.invariant ∙ ap (λ y. c.args.place / q ^ y) e)
+    let h = c.in-Some.ensures in
+    let f = weight_fits q (rows_positive (shaped c.args.self)) c.args.column c.args.self.wide (rw c.min.ensures at h.0) in
+    let e : c.in-Some.weight ≡ q ^ c.args.column = cc in
+    ap (λ w. c.args.place / w % q) e
+
+pub returns-in-None : goal.returns-in-None
+returns-in-None c =
+    sym (digit_high c.args.self.q (rows_positive (shaped c.args.self)) c.args.place c.args.column (omega arith) (rw c.min.ensures at c.in-None.ensures))

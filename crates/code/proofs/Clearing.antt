@@ -1,43 +1,59 @@
 -- Words set to 0, node by node. Assumes nothing.
-use Rattle.std.proofs.Common.{◌≡◌, ℕ, ◌+◌, ◌*◌, ◌<◌, ◌≤◌, Bool, true, false, ◌≢◌, ◌⊎◌, List, length, set, sym, refl, ap, ◌∙◌, subst, inl, inr, arith}
-use Rattle.std.proofs.lemmas.List.{get_or-set_same, get_or-set_other, drop-set-lt}
-use Rattle.std.proofs.lemmas.Bool.{both_ways, cases_eq}
-use Rattle.code.specs.Calls.{Rest}
+use Rattle.std.proofs.Common.{◌≡◌, ℕ, ◌+◌, ◌*◌, ◌<◌, ◌≤◌, Bool, true, false, ◌≢◌, ◌⊎◌, List, length, get_or, replicate, ap, ◌∙◌, inl, inr, arith}
+use Rattle.std.proofs.lemmas.Grind.{common_steps}
+use borrow.Rule.Slice.PartMut.{put_mid}
+use Rattle.std.proofs.lemmas.Bool.{both_ways, cases_eq, cases_lt}
+use Rattle.std.proofs.lemmas.List.{length-replicate}
+use Rattle.std.proofs.lemmas.Slice.{drop-put_mid}
+use Rattle.field.specs.Field.{Arith, Laws}
 use Rattle.code.specs.Code.{Words, laid}
-use Rattle.code.specs.Steps.{NodeCleared, Cleared}
-use Rattle.code.proofs.Places.{spot_within}
-use Rattle.code.proofs.Writes.{spots_apart}
+use Rattle.code.specs.Solving.{Codes}
+use Rattle.code.specs.Steps.{NodeCleared, Cleared, Sound}
+use Rattle.code.proofs.Places.{node_within}
 
-pub node_clear_none : (places node : ℕ) (w : Words) → NodeCleared places node 0 w w
-node_clear_none places node w = record { none = λ p lp l. absurd (omega arith); kept = λ i p lp h. refl }
+-- a part of a list set to 0
+pub zero_inside : (ws zs : List ℕ) (a k j : ℕ) → a + k ≤ length ws → zs ≡ replicate k 0 → a ≤ j → j < a + k → get_or (put_mid a k ws zs) j 0 ≡ 0
+zero_inside ws zs a k j room is low high = grind (arith, common_steps)
 
--- one word more
-pub node_clear_more : (n places node place : ℕ) (before now : List ℕ) → node < n → place < places → n * places ≤ length now → NodeCleared places node place (laid places before) (laid places now)
-    → Rest (n * places) before now → (at : ℕ) → at ≡ node * places + place
-    → NodeCleared places node (place + 1) (laid places before) (laid places (set now at 0)) × Rest (n * places) before (set now at 0)
-node_clear_more n places node place before now ln lplace room inv rest at is = (
-  subst (λ k. NodeCleared places node (place + 1) (laid places before) (laid places (set now k 0))) (sym is)
-      (record { none = λ p lp l. gone p lp l (cases_eq p place); kept = λ i p lp h. stays i p lp h }),
-  drop-set-lt (n * places) now at 0 (let l = spot_within n places node place ln lplace in omega arith) ∙ rest,
-)
-  where
-    other : (i p : ℕ) → p < places → (i ≢ node) ⊎ (p ≢ place) → laid places (set now (node * places + place) 0) i p ≡ laid places now i p
-    other i p lp ne = get_or-set_other now (node * places + place) (i * places + p) 0 0 (spots_apart places node place i p lplace lp ne)
+pub kept_outside : (ws zs : List ℕ) (a k j : ℕ) → a + k ≤ length ws → length zs ≡ k → (j < a) ⊎ (a + k ≤ j) → get_or (put_mid a k ws zs) j 0 ≡ get_or ws j 0
+kept_outside ws zs a k j room long (inl l) = grind (arith, common_steps)
+kept_outside ws zs a k j room long (inr l) = grind (arith, common_steps)
 
-    gone : (p : ℕ) → p < places → p < place + 1 → (p ≡ place) ⊎ (p ≡ place → ⊥) → laid places (set now (node * places + place) 0) node p ≡ 0
-    gone p lp l (inl e) =
-        ap (λ r. laid places (set now (node * places + place) 0) node r) e
-        ∙ get_or-set_same now (node * places + place) 0 0 (let m = spot_within n places node place ln lplace in omega arith)
-    gone p lp l (inr ne) = other node p lp (inr ne) ∙ inv.none p lp (omega arith)
+-- the words of a node set to 0
+module _ (n places node : ℕ) (ws zs : List ℕ) (within : node < n) (room : n * places ≤ length ws) (is : zs ≡ replicate places 0) where
+  long : length zs ≡ places
+  long = ap length is ∙ length-replicate places 0
 
-    stays : (i p : ℕ) → p < places → (i ≢ node) ⊎ (place + 1 ≤ p) → laid places (set now (node * places + place) 0) i p ≡ laid places before i p
-    stays i p lp (inl ne) = other i p lp (inl ne) ∙ inv.kept i p lp (inl ne)
-    stays i p lp (inr l) = other i p lp (inr (λ e. omega arith)) ∙ inv.kept i p lp (inr (omega arith))
+  fits : node * places + places ≤ length ws
+  fits = let w = node_within n places node within in omega arith
+
+  at_other : (j : ℕ) → (j < node * places) ⊎ (node * places + places ≤ j) → get_or (put_mid (node * places) places ws zs) j 0 ≡ get_or ws j 0
+  at_other j out = kept_outside ws zs (node * places) places j fits long out
+
+  pub node_cleared : NodeCleared places node places (laid places ws) (laid places (put_mid (node * places) places ws zs))
+  node_cleared = record {
+    none = λ p lp l. zero_inside ws zs (node * places) places (node * places + p) fits is (omega arith) (omega arith);
+    kept = λ i p lp h. at_other (i * places + p) (apart i p lp h (cases_lt i node));
+  }
+    where
+      apart : (i p : ℕ) → p < places → (i ≢ node) ⊎ (places ≤ p) → (i < node) ⊎ (node ≤ i) → (i * places + p < node * places) ⊎ (node * places + places ≤ i * places + p)
+      apart i p lp (inr l) o = absurd (omega arith)
+      apart i p lp (inl ne) (inl l) = inl (let w = node_within node places i l in omega arith)
+      apart i p lp (inl ne) (inr l) = inr (let w = node_within i places node (omega arith) in omega arith)
+
+  pub clear_sound : {E : Type 0} (f : Arith E) → Laws f → Sound f (n * places) ws (put_mid (node * places) places ws zs)
+  clear_sound f laws = (
+    drop-put_mid (node * places) places ws zs (n * places) (node_within n places node within) (let l = fits in omega arith) long,
+    λ codes j lj. code j lj codes (cases_lt j (node * places)) (cases_lt j (node * places + places)),
+  )
+    where
+      code : (j : ℕ) → j < n * places → Codes f ws (n * places) → (j < node * places) ⊎ (node * places ≤ j) → (j < node * places + places) ⊎ (node * places + places ≤ j)
+          → get_or (put_mid (node * places) places ws zs) j 0 < f.size
+      code j lj codes (inl l) o = let e = at_other j (inl l) in let h = codes j lj in omega arith
+      code j lj codes (inr l) (inr m) = let e = at_other j (inr m) in let h = codes j lj in omega arith
+      code j lj codes (inr l) (inl m) = let e = zero_inside ws zs (node * places) places j fits is l m in let z = laws.code_below f.zero in let y = laws.zero_code in omega arith
 
 module _ (places : ℕ) (S : ℕ → Bool) where
-  pub clear_none : (w : Words) → Cleared places S 0 w w
-  clear_none w = record { none = λ i p lp x l. absurd (omega arith); kept = λ i p lp h. refl }
-
   pub clear_skip : (node : ℕ) (w w' : Words) → S node ≡ false → Cleared places S node w w' → Cleared places S (node + 1) w w'
   clear_skip node w w' out inv = record {
     none = λ i p lp x l. inv.none i p lp x (let m : i ≢ node = λ e. both_ways (S i) (ap S e ∙ out) x in omega arith);

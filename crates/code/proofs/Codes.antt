@@ -1,7 +1,7 @@
 -- Tests that words are codes. Assumes nothing.
-use Rattle.std.proofs.Common.{◌≡◌, ℕ, zero, suc, ◌<◌, ◌≤◌, Bool, true, false, cond, ltb, List, length, get_or, take, refl, ap, ◌∙◌, ap₂, arith}
+use Rattle.std.proofs.Common.{◌≡◌, ℕ, zero, suc, ◌<◌, ◌≤◌, Bool, true, false, cond, ltb, List, length, get_or, take, ◌↔◌, IsTrue, sym, refl, ap, ◌∙◌, ap₂, ⊎_elim, arith}
 use Rattle.std.proofs.lemmas.List.{get_or-take, length-take-le}
-use Rattle.std.proofs.lemmas.Bool.{lt-ltb, ltb-true}
+use Rattle.std.proofs.lemmas.Bool.{lt-ltb, ltb-true, cases_Bool}
 use Rattle.field.specs.Field.{Arith}
 use Rattle.shape.specs.Outages.{every}
 use Rattle.shape.proofs.Every.{every_at, every_from}
@@ -28,3 +28,8 @@ module _ {E : Type 0} (f : Arith E) where
 
   pub codes_from : (ws : List ℕ) (n : ℕ) → Codes f ws n → first_codes f ws n ≡ true
   codes_from ws n h = every_from (λ j. ltb (get_or ws j 0) f.size) n (λ k l. lt-ltb (get_or ws k 0) f.size (h k l))
+
+  -- a test that tells whether all words are codes
+  pub codes_told : (ws : List ℕ) (b : Bool) → (IsTrue b ↔ Codes f ws (length ws)) → b ≡ all_codes f ws
+  codes_told ws true h = sym (codes_from ws (length ws) (h.0 refl))
+  codes_told ws false h = ⊎_elim (λ e. let x = h.1 (codes_at ws (length ws) e) in cc) sym (cases_Bool (all_codes f ws))

@@ -69,9 +69,6 @@ module _ {E : Type 0} (f : Arith E) (laws : Laws f) {q t : ℕ} (s : Shaped q t)
           (cond (ltb i (companion_node q i p)) (cond (S (companion_node q i p)) (of_pair f v w) (minus f v (u ⊗ w))) (minus f v (u ⊗ w)))) own (other o)
 
   module _ (level node : ℕ) (ln : node < q * t) where
-    pub node_none : (A : ℕ → ℕ → E) → NodeTurned f q t S level node 0 A A
-    node_none A = record { made = λ p lp k l. absurd (omega arith); kept = λ i p li lp h. refl }
-
     -- a plane of another score
     pub node_skip : (place : ℕ) (A A' : ℕ → ℕ → E) → score q t S place ≢ level → NodeTurned f q t S level node place A A' → NodeTurned f q t S level node (place + 1) A A'
     node_skip place A A' ne inv = record {
@@ -110,9 +107,6 @@ module _ {E : Type 0} (f : Arith E) (laws : Laws f) {q t : ℕ} (s : Shaped q t)
         stays i p li lp (inr (inr l)) = wrote.other i p lp (inr (λ e. omega arith)) ∙ inv.kept i p li lp (inr (inr (omega arith)))
 
   module _ (level : ℕ) where
-    pub turned_none : (A : ℕ → ℕ → E) → ScoreTurned f q t S level 0 A A
-    turned_none A = record { made = λ i p li lp x k l. absurd (omega arith); kept = λ i p li lp h. refl }
-
     -- a node that is not erased
     pub turned_skip : (node : ℕ) (A A' : ℕ → ℕ → E) → S node ≡ false → ScoreTurned f q t S level node A A' → ScoreTurned f q t S level (node + 1) A A'
     turned_skip node A A' out inv = record {

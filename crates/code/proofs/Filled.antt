@@ -1,5 +1,5 @@
 -- The planes of lower score, filled in place. Assumes nothing.
-use Rattle.std.proofs.Common.{◌≡◌, ℕ, ◌+◌, ◌*◌, ◌^◌, ◌<◌, ◌≤◌, Bool, true, false, ◌≢◌, ◌⊎◌, sym, refl, ◌∙◌, ap₂, inl, inr, arith}
+use Rattle.std.proofs.Common.{◌≡◌, ℕ, ◌+◌, ◌*◌, ◌^◌, ◌<◌, ◌≤◌, Bool, true, false, ◌≢◌, ◌⊎◌, sym, ◌∙◌, ap₂, inl, inr, arith}
 use Rattle.std.proofs.lemmas.Bool.{cases_eq, cases_Bool}
 use Rattle.field.specs.Field.{Arith, Laws}
 use Rattle.shape.specs.Layout.{row, column, digit, companion_node, companion_place}
@@ -19,9 +19,6 @@ pub record FilledTo {E : Type 0} (f : Arith E) (q t : ℕ) (S : ℕ → Bool) (m
   pub kept : Agree f q t S A' A
 
 module _ {E : Type 0} (f : Arith E) (laws : Laws f) {q t : ℕ} (s : Shaped q t) (S : ℕ → Bool) (m : ℕ) where
-  pub filled_none : (A : ℕ → ℕ → E) → FilledTo f q t S m 0 A A
-  filled_none A = record { done = λ p e lp le l. absurd (omega arith); kept = λ i p li lp x. refl }
-
   module _ (level : ℕ) (A B C : ℕ → ℕ → E) (solved : ScoreSolved f q t S level (q ^ t) A B) (turned : ScoreTurned f q t S level (q * t) B C) where
     made : (i p : ℕ) → i < q * t → p < q ^ t → S i ≡ true → score q t S p ≡ level → C i p ≡ turn f q S A (solution f q t S A) i p
     made i p li lp x k = turned.made i p li lp x k li ∙ go (cases_eq (row q i) (digit q p (column q i))) (cases_Bool (S c))

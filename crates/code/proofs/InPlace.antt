@@ -1,7 +1,7 @@
 -- The steps of a solution in place. Assumes nothing.
-use Rattle.std.proofs.Common.{◌≡◌, ℕ, zero, suc, ◌+◌, ◌<◌, ◌≤◌, true, ◌≢◌, List, length, get_or, set, sym, refl, ap, ◌∙◌, subst, ap₂, ⊎_elim, add-one, arith}
-use Rattle.std.proofs.lemmas.List.{get_or-set_same, get_or-set_other}
-use Rattle.std.proofs.lemmas.Bool.{cases_order}
+use Rattle.std.proofs.Common.{◌≡◌, ℕ, zero, suc, ◌+◌, ◌-◌, ◌++◌, ◌<◌, ◌≤◌, true, ◌≢◌, List, length, get_or, set, take, drop, sym, refl, ap, ◌∙◌, subst, ap₂, ⊎_elim, add-one, arith}
+use Rattle.std.proofs.lemmas.List.{get_or-set_same, get_or-set_other, get_or-take, get_or-drop, get_or_append_left, get_or-append_right, length-take-le}
+use Rattle.std.proofs.lemmas.Bool.{cases_lt, cases_order}
 use Rattle.field.specs.Field.{Arith, Laws}
 use Rattle.shape.specs.Outages.{rising}
 use Rattle.shape.proofs.Rising.{rising_below, rising_order}
@@ -90,6 +90,37 @@ module _ {E : Type 0} (f : Arith E) (laws : Laws f) where
     codes_more now k v room inv.1 (is ∙ refl),
     kept_more before now k v inv.2,
   )
+
+  -- what is said of the front of the words, whose rest stays
+  pub reduced_front : (a : E) (before x : List ℕ) (n k : ℕ) → n ≤ length before → length x ≡ n → suc k ≡ n
+      → Reduced f a (take n before) x (length (take n before) - 1) × KeptFrom (take n before) x (length (take n before) - 1)
+      → Reduced f a before (x ++ drop n before) k × KeptFrom before (x ++ drop n before) k
+  reduced_front a before x n k room long is h =
+      let e : length (take n before) ≡ n = length-take-le n before room in
+      let front : (i : ℕ) → i < n → get_or (take n before) i 0 ≡ get_or before i 0 = λ i l. get_or-take n before i 0 l in
+      let left : (i : ℕ) → i < n → get_or (x ++ drop n before) i 0 ≡ get_or x i 0 = λ i l. get_or_append_left x (drop n before) 0 i (omega arith) in (
+        λ i l. ap (read f) (left i (omega arith)) ∙ h.0 i (omega arith) ∙ ap₂ (λ v w. minus f (read f v) (f.product a (read f w))) (front (suc i) (omega arith)) (front i (omega arith)),
+        λ i l. ⊎_elim
+            (λ b. left i b ∙ h.1 i (omega arith) ∙ front i b)
+            (λ b. get_or-append_right x (drop n before) n i 0 long b ∙ get_or-drop n before (i - n) 0 ∙ ap (λ j. get_or before j 0) (let m : n + (i - n) ≡ i = omega arith in m))
+            (cases_lt i n),
+      )
+
+  -- what is said of the first nodes of a list
+  pub divided_front : (a : E) (nodes before after : List ℕ) (k j : ℕ) → k ≤ length nodes → j ≡ k
+      → Divided f a (take j nodes) before after (length (take j nodes)) × Codes f after (length (take j nodes)) × KeptFrom before after (length (take j nodes))
+      → Divided f a nodes before after k × Codes f after k × KeptFrom before after k
+  divided_front a nodes before after k j room is h =
+      let e : length (take j nodes) ≡ k = length-take-le j nodes (omega arith) ∙ is in (
+        λ i l. h.0 i (omega arith) ∙ ap (λ n. f.product (f.inverse (minus f (f.point n) a)) (reads f before i)) (get_or-take j nodes i 0 (omega arith)),
+        λ i l. h.1 i (omega arith),
+        λ i l. h.2 i (omega arith),
+      )
+
+  pub total_front : (ws : List ℕ) (k j : ℕ) → k ≤ length ws → j ≡ k → total f (reads f (take j ws)) (length (take j ws)) ≡ total f (reads f ws) k
+  total_front ws k j room is =
+      let e : length (take j ws) ≡ k = length-take-le j ws (omega arith) ∙ is in
+      ap (total f (reads f (take j ws))) e ∙ total_same f laws (reads f (take j ws)) (reads f ws) k (λ i l. ap (read f) (get_or-take j ws i 0 (omega arith)))
 
   -- one call, with the last point a: the right sides v₀ are reduced to v₁, solved to v₂, divided to v₃, and the last unknown is written
   module _ (nodes v₀ v₁ v₂ v₃ : List ℕ) (k : ℕ) (a d : E) (a_is : a ≡ points f nodes k) (apart : Apart (points f nodes) (suc k)) (room : k < length v₃)

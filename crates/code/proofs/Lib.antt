@@ -17,6 +17,7 @@ pub mod Solutions
 pub mod PlaneSolution
 pub mod Writes
 pub mod Scored
+pub mod Ranges
 pub mod Coupling
 pub mod Filled
 pub mod Clearing
@@ -24,3 +25,5 @@ pub mod Runs
 pub mod Restoration
 pub mod Carrying
 pub mod Refilling
+pub mod Stays
+pub mod Items

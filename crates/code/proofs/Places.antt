@@ -8,6 +8,10 @@ use Rattle.shape.proofs.Digits.{companion_bound, companion_place_bound}
 pub spot_within : (n places i p : ℕ) → i < n → p < places → i * places + p < n * places
 spot_within n places i p li lp = digits_lt {q = i} {m = n} li lp
 
+-- the words of a node are within
+pub node_within : (n places i : ℕ) → i < n → i * places + places ≤ n * places
+node_within n places i l = let h : i + 1 ≤ n = omega arith in let a = mul-le-mul_right places h in omega arith
+
 -- a column's nodes are within
 pub column_within : (q t y : ℕ) → y < t → y * q + q ≤ q * t
 column_within q t y l = let h : y + 1 ≤ t = omega arith in let a = mul-le-mul_right q h in omega arith

@@ -232,16 +232,6 @@ module _ {E : Type 0} (f : Arith E) (laws : Laws f) {q t : ℕ} (s : Shaped q t)
         earlier : (p : ℕ) → p < q ^ t → (companion_place q lost p ≡ plane) × (digit q p (column q lost) < k + 1) → p ≢ place → (companion_place q lost p ≡ plane) × (digit q p (column q lost) < k)
         earlier p lp d ne = (d.0, let m : digit q p (column q lost) ≢ k = (λ e. ne (at_place p d.0 e)) in let l = d.1 in omega arith)
 
-  pub row_none : (plane : ℕ) (before : List ℕ) → PlaneRefilled f q t (among nodes) lost plane 0 before before
-  row_none plane before = record {
-    filled = record { made = λ p lp d. absurd (let l = d.1 in omega arith); codes = λ p lp d. absurd (let l = d.1 in omega arith); others = λ k h. refl };
-    kept = λ p lp ne. refl;
-  }
-
-  -- the words whose companions lie in the planes below one
-  pub planes_none : (before : List ℕ) → RefilledWhere f q t (among nodes) lost (λ p. companion_place q lost p < 0) before before
-  planes_none before = record { made = λ p lp d. absurd (omega arith); codes = λ p lp d. absurd (omega arith); others = λ k h. refl }
-
   -- a plane that does not help is no companion's
   pub planes_skip : (plane : ℕ) (before now : List ℕ) → (Helps q lost plane → ⊥) → RefilledWhere f q t (among nodes) lost (λ p. companion_place q lost p < plane) before now
       → RefilledWhere f q t (among nodes) lost (λ p. companion_place q lost p < plane + 1) before now

@@ -1,9 +1,9 @@
 -- What the restored words are. Assumes nothing.
 use Rattle.std.proofs.Common.{◌≡◌, ℕ, ◌*◌, ◌^◌, ◌<◌, ◌≤◌, Bool, true, false, cond, not, eqb, ltb, ◌⊎◌, List, length, Some, None, Err, Option, sym, refl, ap, ◌∙◌, subst, inl, inr, arith}
-use Rattle.std.proofs.lemmas.Bool.{cases_Bool, cond-true, cond-false, eq-eqb, ne_eqb, lt-ltb, le-ltb, ltb-true, not-true, not_from_false, not_from_true}
+use Rattle.std.proofs.lemmas.Bool.{cases_Bool, cond-true, cond-false, eq-eqb, lt-ltb, le-ltb, ltb-true, not-true, not_from_false, not_from_true}
 use Rattle.field.specs.Field.{Arith, Laws}
 use Rattle.refusal.specs.declared.reason.Refusal.{Refusal}
-use Rattle.refusal.specs.declared.reason.Refusal.TheVariants.{WorkSpace, NoSuchPlace, TooManyOut, BadWord, NoCodeword}
+use Rattle.refusal.specs.declared.reason.Refusal.TheVariants.{BadWord, NoCodeword}
 use Rattle.shape.specs.Outages.{every, among, rising}
 use Rattle.shape.proofs.Bounds.{Shaped, rows_positive}
 use Rattle.shape.proofs.Every.{every_at, every_from}
@@ -86,21 +86,11 @@ module _ {E : Type 0} (f : Arith E) (laws : Laws f) {q t : ℕ} (s : Shaped q t)
 
 -- which refusal comes first
 module _ {E : Type 0} (f : Arith E) (q t count : ℕ) (nodes ws : List ℕ) where
-  pub refusal_short : length ws < q * t * q ^ t → restore_refusal q t count nodes ws ≡ Some WorkSpace
-  refusal_short l = cond-true (short q t ws) _ _ (lt-ltb (length ws) (q * t * q ^ t) l)
-
   long : q * t * q ^ t ≤ length ws → short q t ws ≡ false
   long l = le-ltb (length ws) (q * t * q ^ t) l
 
-  pub refusal_count : q * t * q ^ t ≤ length ws → (count ≡ q * t → ⊥) → restore_refusal q t count nodes ws ≡ Some NoSuchPlace
-  refusal_count l ne = cond-false (short q t ws) _ _ (long l) ∙ cond-true (not (eqb count (q * t))) _ _ (not_from_false (eqb count (q * t)) (ne_eqb count (q * t) ne))
-
   fit : count ≡ q * t → not (eqb count (q * t)) ≡ false
   fit e = not_from_true (eqb count (q * t)) (eq-eqb count (q * t) e)
-
-  pub refusal_many : q * t * q ^ t ≤ length ws → count ≡ q * t → q < length nodes → restore_refusal q t count nodes ws ≡ Some TooManyOut
-  refusal_many l e m =
-      cond-false (short q t ws) _ _ (long l) ∙ cond-false (not (eqb count (q * t))) _ _ (fit e) ∙ cond-true (ltb q (length nodes)) _ _ (lt-ltb q (length nodes) m)
 
   pub refusal_none : q * t * q ^ t ≤ length ws → count ≡ q * t → length nodes ≤ q → restore_refusal q t count nodes ws ≡ None
   refusal_none l e m =
@@ -108,11 +98,6 @@ module _ {E : Type 0} (f : Arith E) (q t count : ℕ) (nodes ws : List ℕ) wher
 
 -- the clauses of a refused call
 module _ {E : Type 0} (f : Arith E) (q t : ℕ) (nodes before after : List ℕ) (count : ℕ) where
-  pub refused_early : (e : Refusal) → restore_refusal q t count nodes before ≡ Some e → after ≡ before → Restored f q t {X = Unit {0}} count nodes before (Err e) after
-  refused_early e is same =
-      let P : Option Refusal → Type 0 = λ o. elim o [ Some r ↦ (e ≡ r) × (after ≡ before) | None ↦ NoneAgrees f q t (standing nodes) (laid (q ^ t) before) e × Rest (q * t * q ^ t) before after ] in
-      subst P (sym is) (refl, same)
-
   late : (e : Refusal) → restore_refusal q t count nodes before ≡ None → NoneAgrees f q t (standing nodes) (laid (q ^ t) before) e → Rest (q * t * q ^ t) before after
       → Restored f q t {X = Unit {0}} count nodes before (Err e) after
   late e is none rest =

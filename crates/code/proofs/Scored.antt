@@ -1,5 +1,5 @@
 -- The planes of one score, solved in place. Assumes nothing.
-use Rattle.std.proofs.Common.{◌≡◌, ℕ, ◌+◌, ◌*◌, ◌^◌, ◌<◌, ◌≤◌, Bool, true, false, ◌≢◌, ◌⊎◌, sym, refl, ap, ◌∙◌, inl, inr, arith}
+use Rattle.std.proofs.Common.{◌≡◌, ℕ, ◌+◌, ◌*◌, ◌^◌, ◌<◌, ◌≤◌, Bool, true, false, ◌≢◌, ◌⊎◌, sym, ap, ◌∙◌, inl, inr, arith}
 use mathlib.Core.Path.{fun_ext}
 use Rattle.std.proofs.lemmas.Bool.{cases_eq, cases_Bool, cond-true, cond-false}
 use Rattle.field.specs.Field.{Arith, Laws}
@@ -24,9 +24,6 @@ module _ {E : Type 0} (f : Arith E) (laws : Laws f) {q t : ℕ} (s : Shaped q t)
       sides e = ap f.negative (moment_same f laws f.point (known f q S A p) (known f q S A' p) (q * t) e (λ j l. same j l (cases_Bool (S j))))
 
   module _ (level : ℕ) where
-    pub solved_none : (A : ℕ → ℕ → E) → ScoreSolved f q t S level 0 A A
-    solved_none A = record { made = λ i p li lp x k l. absurd (omega arith); kept = λ i p li lp h. refl }
-
     -- a plane of another score
     pub solved_skip : (place : ℕ) (A A' : ℕ → ℕ → E) → score q t S place ≢ level → ScoreSolved f q t S level place A A' → ScoreSolved f q t S level (place + 1) A A'
     solved_skip place A A' ne inv = record { made = λ i p li lp x k l. inv.made i p li lp x k (low p k l); kept = λ i p li lp h. inv.kept i p li lp (weaker p h) }

@@ -1,8 +1,7 @@
 -- One symbol written into a list of words. Assumes nothing.
-use Rattle.std.proofs.Common.{◌≡◌, ℕ, ◌+◌, ◌*◌, ◌/◌, ◌%◌, ◌<◌, ◌≤◌, ◌≢◌, ◌⊎◌, List, length, get_or, set, sym, refl, ap, ◌∙◌, inl, inr, arith}
+use Rattle.std.proofs.Common.{ℕ, ◌+◌, ◌*◌, ◌/◌, ◌%◌, ◌<◌, ◌≤◌, ◌≢◌, ◌⊎◌, List, length, set, sym, ap, ◌∙◌, inl, inr, arith}
 use lib.Arith.{digits_div, digits_mod}
-use Rattle.std.proofs.lemmas.List.{get_or-set_same, get_or-set_other, drop-set-lt}
-use Rattle.std.proofs.lemmas.Bool.{cases_eq}
+use Rattle.std.proofs.lemmas.List.{get_or-set_same, get_or-set_other}
 use Rattle.field.specs.Field.{Arith, Laws}
 use Rattle.code.specs.Reading.{read, symbols}
 use Rattle.code.specs.Steps.{Sound, Wrote}
@@ -15,25 +14,11 @@ spots_apart places i p j r lp lr (inl ne) e = ne (sym (digits_div j lr) ∙ ap (
 spots_apart places i p j r lp lr (inr ne) e = ne (sym (digits_mod j lr) ∙ ap (λ k. k % places) e ∙ digits_mod i lp)
 
 module _ {E : Type 0} (f : Arith E) where
-  pub sound_none : (used : ℕ) (ws : List ℕ) → Sound f used ws ws
-  sound_none used ws = (refl, λ c. c)
-
   pub sound_both : (used : ℕ) (ws ws' ws'' : List ℕ) → Sound f used ws ws' → Sound f used ws' ws'' → Sound f used ws ws''
   sound_both used ws ws' ws'' a b = (b.0 ∙ a.0, λ c. b.1 (a.1 c))
 
   module _ (laws : Laws f) where
-    -- a code written among the used words
-    pub sound_set : (used : ℕ) (ws : List ℕ) (k v : ℕ) → k < used → used ≤ length ws → v < f.size → Sound f used ws (set ws k v)
-    sound_set used ws k v l room code = (drop-set-lt used ws k v l, λ c j lj. go j lj c (cases_eq j k))
-      where
-        go : (j : ℕ) → j < used → ((i : ℕ) → i < used → get_or ws i 0 < f.size) → (j ≡ k) ⊎ (j ≡ k → ⊥) → get_or (set ws k v) j 0 < f.size
-        go j lj c (inl e) = let g : get_or (set ws k v) j 0 ≡ v = ap (λ i. get_or (set ws k v) i 0) e ∙ get_or-set_same ws k v 0 (omega arith) in omega arith
-        go j lj c (inr ne) = let g = get_or-set_other ws k j v 0 ne in let h = c j lj in omega arith
-
     module _ (n places : ℕ) (ws : List ℕ) (room : n * places ≤ length ws) (i p : ℕ) (li : i < n) (lp : p < places) (a : E) where
-      pub write_sound : Sound f (n * places) ws (set ws (i * places + p) (f.code a))
-      write_sound = sound_set (n * places) ws (i * places + p) (f.code a) (spot_within n places i p li lp) room (laws.code_below a)
-
       pub wrote : Wrote places i p a (symbols f places ws) (symbols f places (set ws (i * places + p) (f.code a)))
       wrote = record {
         here = ap (read f) (get_or-set_same ws (i * places + p) (f.code a) 0 (let l = spot_within n places i p li lp in omega arith)) ∙ read_written f laws a;

@@ -1,6 +1,7 @@
 -- The coupled-layer code over a field. Assumes nothing.
 use Rattle.std.specs.Prelude.{◌≡◌, ℕ, zero, suc, ◌+◌, ◌-◌, ◌*◌, ◌^◌, ◌<◌, Bool, true, cond, ◌≢◌, List, ◌==◌, slice_index}
 use Rattle.field.specs.Field.{Arith}
+use Rattle.shape.specs.Layout as Layout
 use Rattle.shape.specs.Layout.{row, column, digit, companion_node, companion_place}
 
 -- an array of words: node, place
@@ -15,9 +16,9 @@ laid places ws i p = slice_index ws (i * places + p)
 abbrev pub with_node : Words → ℕ → (ℕ → ℕ) → Words
 with_node w i c j = cond (j == i) c (w j)
 
--- place p helps node i: its digit in the node's column is the node's row
+-- place p helps node i, as the shape says
 abbrev pub helps : (q i p : ℕ) → Bool
-helps q i p = digit q p (column q i) == row q i
+helps q i p = Layout.helps q i p
 
 module _ {E : Type 0} (f : Arith E) where
   -- a - b

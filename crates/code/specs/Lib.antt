@@ -5,3 +5,4 @@ pub mod Solving
 pub mod Theorems
 pub mod Calls
 pub mod Steps
+pub mod Arrays

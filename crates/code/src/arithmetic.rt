@@ -9,10 +9,7 @@ use field::Field;
 pub(crate) fn element<F: Field>(word: u16) -> F::Element
     ensures { result ≡ read F.arith word }
 {
-    match F::element(word) {
-        Ok(a) => a,
-        Err(_) => F::zero(),
-    }
+    F::element(word).unwrap_or(F::zero())
 }
 
 // a - b

@@ -1,5 +1,5 @@
 // Encodes a message.
-ghost use Rattle.std.specs.Prelude.{◌≡◌, ℕ, ◌*◌, ◌^◌, ◌<◌, ◌≤◌, length, slice_index};
+ghost use Rattle.std.specs.Prelude.{◌≡◌, ℕ, ◌<◌, ◌≤◌, length, slice_index};
 ghost use Rattle.code.specs.Calls.{Encoded};
 ghost use Rattle.code.specs.Solving.{KeptFrom};
 ghost use Rattle.code.specs.Theorems.{SomeOne};
@@ -17,9 +17,7 @@ fn copy_message(message: &[u16], words: &mut [u16])
     ensures copied { (k : ℕ) → k < length message.now → slice_index words.new k ≡ slice_index message.now k }
     ensures kept { KeptFrom words.old words.new (length message.now) }
 {
-    for i in 0..message.len() {
-        words[i] = message[i];
-    }
+    words[..message.len()].copy_from_slice(message);
 }
 
 // Makes the first words the only codeword that carries the message in its data nodes.

@@ -2,6 +2,7 @@
 #![tactic(auto)]
 
 mod arithmetic;
+mod array;
 mod checking;
 mod encoding;
 mod listing;

@@ -1,72 +1,69 @@
 // Restores the words of listed nodes from those of the others.
-ghost use Rattle.std.specs.Prelude.{◌≡◌, ◌*◌, ◌^◌, ◌<◌, ◌≤◌, length};
-ghost use Rattle.code.specs.Calls.{Rest, Restored};
-ghost use Rattle.code.specs.Code.{Checks, laid};
-ghost use Rattle.code.specs.Reading.{symbols};
-ghost use Rattle.code.specs.Steps.{Cleared, NodeCleared, ScoreSolved, Sound};
+ghost use Rattle.std.specs.Prelude.{◌≡◌, ◌*◌, ◌^◌, ◌<◌, length};
+ghost use Rattle.code.specs.Arrays.{Stays, symbols_in, words_in};
+ghost use Rattle.code.specs.Calls.{Restored};
+ghost use Rattle.code.specs.Code.{Checks};
+ghost use Rattle.code.specs.Steps.{Cleared, NodeCleared, ScoreSolved};
 ghost use Rattle.code.specs.Theorems.{Agree, OnlyOne};
 ghost use Rattle.shape.specs.Listing.{outages};
 ghost use Rattle.shape.specs.Outages.{among};
 
-use crate::checking::{all_codes, planes_hold};
-use crate::planes::{score, solve_plane};
-use crate::symbols::spot;
-use crate::turning::turn_score;
+use crate::array::ArrayMut;
+use crate::planes::score;
 use field::Field;
 use refusal::Refusal;
 use shape::{OutageList, Shape};
+use std::marker::PhantomData;
 
-// Sets the words of a node to 0.
-fn clear_node(shape: Shape, words: &mut [u16], node: usize)
-    requires node { node < shape.q * shape.t }
-    requires room { shape.q * shape.t * shape.q ^ shape.t ≤ length words.old }
-    ensures cleared { NodeCleared (shape.q ^ shape.t) node (shape.q ^ shape.t) (laid (shape.q ^ shape.t) words.old) (laid (shape.q ^ shape.t) words.new) }
-    ensures rest { Rest (shape.q * shape.t * shape.q ^ shape.t) words.old words.new }
-{
-    for place in 0..shape.places() {
-        let at = spot(shape, node, place);
-        words[at] = 0;
+impl<F: Field> ArrayMut<'_, F> {
+    // Sets the words of a node to 0.
+    fn clear_node(&mut self, node: usize)
+        requires { node < self.old.shape.q * self.old.shape.t }
+        ensures cleared { NodeCleared (self.old.shape.q ^ self.old.shape.t) node (self.old.shape.q ^ self.old.shape.t) (words_in self.old) (words_in self.new) }
+        ensures stays { Stays F.arith self.old self.new }
+    {
+        let places = self.shape.places();
+        let start = node * places;
+        self.words[start..start + places].fill(0);
     }
-}
 
-// Sets the words of the listed nodes to 0.
-fn clear(shape: Shape, out: &OutageList, words: &mut [u16])
-    requires { shape.q * shape.t * shape.q ^ shape.t ≤ length words.old }
-    ensures cleared { Cleared (shape.q ^ shape.t) (among (outages out.now)) (shape.q * shape.t) (laid (shape.q ^ shape.t) words.old) (laid (shape.q ^ shape.t) words.new) }
-    ensures rest { Rest (shape.q * shape.t * shape.q ^ shape.t) words.old words.new }
-{
-    for node in 0..shape.nodes() {
-        if out.contains(node) {
-            clear_node(shape, words, node);
+    // Sets the words of the listed nodes to 0.
+    fn clear(&mut self, out: &OutageList)
+        ensures cleared { Cleared (self.old.shape.q ^ self.old.shape.t) (among (outages out.now)) (self.old.shape.q * self.old.shape.t) (words_in self.old) (words_in self.new) }
+        ensures stays { Stays F.arith self.old self.new }
+    {
+        // All nodes in order, since the contract counts the nodes below a number.
+        for node in 0..self.shape.nodes() {
+            if out.contains(node) {
+                self.clear_node(node);
+            }
         }
     }
-}
 
-// Writes the uncoupled symbols of the listed nodes in the planes of a score.
-fn solve_score<F: Field>(shape: Shape, out: &OutageList, words: &mut [u16], level: usize)
-    requires room { shape.q * shape.t * shape.q ^ shape.t ≤ length words.old }
-    requires count { out.now.count ≡ shape.q * shape.t }
-    ensures solved { ScoreSolved F.arith shape.q shape.t (among (outages out.now)) level (shape.q ^ shape.t) (symbols F.arith (shape.q ^ shape.t) words.old) (symbols F.arith (shape.q ^ shape.t) words.new) }
-    ensures sound { Sound F.arith (shape.q * shape.t * shape.q ^ shape.t) words.old words.new }
-{
-    for place in 0..shape.places() {
-        if score(shape, out, place) == level {
-            solve_plane::<F>(shape, out, words, place);
+    // Writes the uncoupled symbols of the listed nodes in the planes of a score.
+    fn solve_score(&mut self, out: &OutageList, level: usize)
+        requires { out.now.count ≡ self.old.shape.q * self.old.shape.t }
+        ensures solved { ScoreSolved F.arith self.old.shape.q self.old.shape.t (among (outages out.now)) level (self.old.shape.q ^ self.old.shape.t) (symbols_in F.arith self.old) (symbols_in F.arith self.new) }
+        ensures stays { Stays F.arith self.old self.new }
+    {
+        for place in 0..self.shape.places() {
+            if score(self.shape, out, place) == level {
+                self.solve_plane(out, place);
+            }
         }
     }
-}
 
-// Fills the words of the listed nodes, plane by plane with rising score.
-fn fill<F: Field>(shape: Shape, out: &OutageList, words: &mut [u16])
-    requires room { shape.q * shape.t * shape.q ^ shape.t ≤ length words.old }
-    requires count { out.now.count ≡ shape.q * shape.t }
-    ensures checks { Checks F.arith shape.q shape.t (length (outages out.now)) (symbols F.arith (shape.q ^ shape.t) words.new) }
-    ensures kept { Agree F.arith shape.q shape.t (among (outages out.now)) (symbols F.arith (shape.q ^ shape.t) words.new) (symbols F.arith (shape.q ^ shape.t) words.old) }
-    ensures sound { Sound F.arith (shape.q * shape.t * shape.q ^ shape.t) words.old words.new }
-{
-    for level in 0..shape.columns() + 1 {
-        solve_score::<F>(shape, out, words, level);
-        turn_score::<F>(shape, out, words, level);
+    // Fills the words of the listed nodes, plane by plane with rising score.
+    fn fill(&mut self, out: &OutageList)
+        requires { out.now.count ≡ self.old.shape.q * self.old.shape.t }
+        ensures checks { Checks F.arith self.old.shape.q self.old.shape.t (length (outages out.now)) (symbols_in F.arith self.new) }
+        ensures kept { Agree F.arith self.old.shape.q self.old.shape.t (among (outages out.now)) (symbols_in F.arith self.new) (symbols_in F.arith self.old) }
+        ensures stays { Stays F.arith self.old self.new }
+    {
+        for level in 0..self.shape.columns() + 1 {
+            self.solve_score(out, level);
+            self.turn_score(out, level);
+        }
     }
 }
 
@@ -75,8 +72,7 @@ pub fn restore<F: Field>(shape: Shape, out: &OutageList, words: &mut [u16]) -> R
     ensures restored { Restored F.arith shape.q shape.t out.now.count (outages out.now) words.old result words.new }
     ensures only_one { OnlyOne F.arith }
 {
-    let used = shape.words();
-    if words.len() < used {
+    if words.len() < shape.words() {
         return Err(Refusal::WorkSpace);
     }
     if out.nodes() != shape.nodes() {
@@ -85,12 +81,17 @@ pub fn restore<F: Field>(shape: Shape, out: &OutageList, words: &mut [u16]) -> R
     if out.len() > shape.rows() {
         return Err(Refusal::TooManyOut);
     }
-    clear(shape, out, words);
-    if !all_codes::<F>(&words[0..used]) {
+    let mut array = ArrayMut::<F> {
+        shape,
+        words,
+        field: PhantomData,
+    };
+    array.clear(out);
+    if !array.view().all_codes() {
         return Err(Refusal::BadWord);
     }
-    fill::<F>(shape, out, words);
-    if planes_hold::<F>(shape, words) {
+    array.fill(out);
+    if array.view().planes_hold() {
         Ok(())
     } else {
         Err(Refusal::NoCodeword)

@@ -1,5 +1,5 @@
 // Systems of powers of points, solved in place.
-ghost use Rattle.std.specs.Prelude.{◌≡◌, ◌<◌, ◌≤◌, length, slice_index};
+ghost use Rattle.std.specs.Prelude.{◌≡◌, ◌-◌, ◌<◌, ◌≤◌, length};
 ghost use Rattle.code.specs.Calls.{Solved};
 ghost use Rattle.code.specs.Code.{total};
 ghost use Rattle.code.specs.Solving.{Codes, Divided, KeptFrom, Reduced, points, reads};
@@ -8,57 +8,51 @@ ghost use Rattle.shape.specs.Listing.{outages};
 
 use crate::arithmetic::{difference, element};
 use crate::checking::all_codes;
-use crate::listing::listed_node;
 use field::Field;
 use refusal::Refusal;
 use shape::OutageList;
 
-// The point of the node at an index of a list.
-fn point_at<F: Field>(out: &OutageList, index: usize) -> F::Element
-    ensures { result ≡ F.arith.point (slice_index (outages out.now) index) }
-{
-    F::point(listed_node(out, index))
-}
-
-// The sum of the first n elements.
-fn sum_first<F: Field>(sides: &[u16], n: usize) -> F::Element
-    requires { n ≤ length sides.now }
-    ensures { result ≡ total F.arith (reads F.arith sides.now) n }
+// The sum of elements.
+fn sum<F: Field>(sides: &[u16]) -> F::Element
+    ensures { result ≡ total F.arith (reads F.arith sides.now) (length sides.now) }
 {
     let mut sum = F::zero();
-    for i in 0..n {
-        sum = F::sum(sum, element::<F>(sides[i]));
+    for side in sides {
+        sum = F::sum(sum, element::<F>(*side));
     }
     sum
 }
 
-// Takes `a` times each right side from the next one.
-fn reduce<F: Field>(a: F::Element, sides: &mut [u16], n: usize)
-    requires { n < length sides.old }
-    ensures reduced { Reduced F.arith a sides.old sides.new n }
-    ensures kept { KeptFrom sides.old sides.new n }
+// Takes `a` times each right side from the next one. The last word stays.
+fn reduce<F: Field>(a: F::Element, sides: &mut [u16])
+    requires { 0 < length sides.old }
+    ensures reduced { Reduced F.arith a sides.old sides.new (length sides.old - 1) }
+    ensures kept { KeptFrom sides.old sides.new (length sides.old - 1) }
 {
-    for e in 0..n {
+    // By index: each step reads the next word and writes this one.
+    for e in 0..sides.len() - 1 {
         let next = element::<F>(sides[e + 1]);
         let here = F::product(a, element::<F>(sides[e]));
         sides[e] = F::code(difference::<F>(next, here));
     }
 }
 
-// Divides each of the first n elements by the difference of its point from `a`.
-fn divide<F: Field>(out: &OutageList, a: F::Element, sides: &mut [u16], n: usize)
-    requires { n ≤ length sides.old }
-    ensures divided { Divided F.arith a (outages out.now) sides.old sides.new n }
-    ensures codes { Codes F.arith sides.new n }
-    ensures kept { KeptFrom sides.old sides.new n }
+// Divides an element for each node by the difference of the node's point from `a`.
+fn divide<F: Field>(nodes: &[usize], a: F::Element, sides: &mut [u16])
+    requires { length nodes.now ≤ length sides.old }
+    ensures divided { Divided F.arith a nodes.now sides.old sides.new (length nodes.now) }
+    ensures codes { Codes F.arith sides.new (length nodes.now) }
+    ensures kept { KeptFrom sides.old sides.new (length nodes.now) }
 {
-    for k in 0..n {
-        let by = F::inverse(difference::<F>(point_at::<F>(out, k), a));
+    // By index: of a slice written through a `zip` a proof knows the length alone, and with `enumerate` over the words the nodes would be read by index.
+    for (k, node) in nodes.iter().enumerate() {
+        let by = F::inverse(difference::<F>(F::point(*node), a));
         sides[k] = F::code(F::product(by, element::<F>(sides[k])));
     }
 }
 
 // Solves the system of the first n points of a list: the first n words are its right sides, and then its solution.
+// By a length n: the list tells that its points differ, which a bare slice of nodes would have to be asked.
 pub(crate) fn solve_first<F: Field>(out: &OutageList, sides: &mut [u16], n: usize)
     requires room { n ≤ length sides.old }
     requires listed { n ≤ length (outages out.now) }
@@ -68,12 +62,13 @@ pub(crate) fn solve_first<F: Field>(out: &OutageList, sides: &mut [u16], n: usiz
 {
     if n > 0 {
         let last = n - 1;
+        let nodes = out.as_slice();
         let first = element::<F>(sides[0]);
-        let a = point_at::<F>(out, last);
-        reduce::<F>(a, sides, last);
+        let a = F::point(nodes[last]);
+        reduce::<F>(a, &mut sides[..n]);
         solve_first::<F>(out, sides, last);
-        divide::<F>(out, a, sides, last);
-        let rest = sum_first::<F>(sides, last);
+        divide::<F>(&nodes[..last], a, sides);
+        let rest = sum::<F>(&sides[..last]);
         sides[last] = F::code(difference::<F>(first, rest));
     }
 }
@@ -89,7 +84,7 @@ pub fn solve<F: Field>(out: &OutageList, sides: &mut [u16]) -> Result<(), Refusa
     if sides.len() < n {
         return Err(Refusal::WorkSpace);
     }
-    if !all_codes::<F>(&sides[0..n]) {
+    if !all_codes::<F>(&sides[..n]) {
         return Err(Refusal::NoCode);
     }
     solve_first::<F>(out, sides, n);

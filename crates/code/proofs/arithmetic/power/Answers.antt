@@ -1,4 +1,4 @@
-use Rattle.std.proofs.Common.{◌≡◌, sym, ap, ◌∙◌, add-one, arith}
+use Rattle.std.proofs.Common.{sym, ap, ◌∙◌, add-one}
 use Rattle.code.specs.Code.{power}
 use Rattle.code.proofs.arithmetic.power.Goals as goal
 
@@ -11,8 +11,3 @@ unfolding power
 loop-preserved g c =
     let f = g.F.Field.arith in
     c.product-result.ensures ∙ ap (f.product c.args.a) c.loop.invariant ∙ ap (power f c.args.a) (sym (add-one c.loop.counter))
-
-pub returns : goal.returns
-returns g c =
-    let e : c.loop.counter ≡ c.args.e = omega arith in
-    c.loop.invariant ∙ ap (power g.F.Field.arith c.args.a) e

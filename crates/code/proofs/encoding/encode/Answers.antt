@@ -1,4 +1,4 @@
-use Rattle.std.proofs.Common.{◌≡◌, ◌-◌, ◌*◌, ◌^◌, true, not, eqb, ltb, length, sym, ◌∙◌, subst, arith, rules}
+use Rattle.std.proofs.Common.{◌≡◌, ◌-◌, ◌*◌, ◌^◌, true, not, eqb, ltb, length, sym, ◌∙◌, subst, arith}
 use Rattle.std.proofs.lemmas.Bool.{cond-false, eq-eqb, le-ltb, not_from_true}
 use Rattle.shape.specs.Listing.{outages}
 use Rattle.shape.specs.Outages.{rising}
@@ -7,15 +7,8 @@ use Rattle.code.specs.Calls.{all_codes}
 use Rattle.code.specs.Steps.{Run}
 use Rattle.code.proofs.Carrying.{encoded}
 use Rattle.code.proofs.Codes.{codes_at}
-use Rattle.code.proofs.Places.{message_within, parity_after}
 use Rattle.code.proofs.Main.{some_one_stands}
 use Rattle.code.proofs.encoding.encode.Goals as goal
-
-pub copy_message-requires : goal.copy_message-requires
-copy_message-requires g c = omega (arith, message_within (shaped c.args.shape))
-
-pub span-parity-requires : goal.span-parity-requires
-span-parity-requires g c = omega (arith, parity_after (shaped c.args.shape))
 
 pub returns : goal.returns
 returns g c = record {
@@ -39,11 +32,11 @@ returns g c = record {
   some_one = some_one_stands g.F.Field.arith g.met.F.Field.lawful;
 }
 
-pub returns-then-message-message_words : goal.returns-then-message-message_words
-returns-then-message-message_words g c = record { encoded = search rules; some_one = some_one_stands g.F.Field.arith g.met.F.Field.lawful }
+pub returns-then-message-message_words-clause-some_one : goal.returns-then-message-message_words-clause-some_one
+returns-then-message-message_words-clause-some_one g c = some_one_stands g.F.Field.arith g.met.F.Field.lawful
 
-pub returns-then-words : goal.returns-then-words
-returns-then-words g c = record { encoded = search rules; some_one = some_one_stands g.F.Field.arith g.met.F.Field.lawful }
+pub returns-then-words-clause-some_one : goal.returns-then-words-clause-some_one
+returns-then-words-clause-some_one g c = some_one_stands g.F.Field.arith g.met.F.Field.lawful
 
-pub returns-then-not-all_codes : goal.returns-then-not-all_codes
-returns-then-not-all_codes g c = record { encoded = search rules; some_one = some_one_stands g.F.Field.arith g.met.F.Field.lawful }
+pub returns-then-not-all_codes-clause-some_one : goal.returns-then-not-all_codes-clause-some_one
+returns-then-not-all_codes-clause-some_one g c = some_one_stands g.F.Field.arith g.met.F.Field.lawful

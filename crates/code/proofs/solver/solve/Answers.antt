@@ -1,5 +1,5 @@
 use Rattle.std.proofs.Common.{◌≡◌, true, false, not, ltb, length, sym, refl, ◌∙◌, subst, arith}
-use Rattle.std.proofs.lemmas.Bool.{cond-true, cond-false, lt-ltb, le-ltb, not_from_true, not_from_false}
+use Rattle.std.proofs.lemmas.Bool.{cond-true, cond-false, le-ltb, not_from_true, not_from_false}
 use Rattle.shape.specs.Listing.{outages}
 use Rattle.code.specs.Calls.{first_codes}
 use Rattle.code.specs.Solving.{points, reads}
@@ -9,15 +9,11 @@ use Rattle.code.proofs.Solutions.{solution}
 use Rattle.code.proofs.Main.{vandermonde_one, vandermonde_some}
 use Rattle.code.proofs.solver.solve.Goals as goal
 
-pub returns-then-sides-n : goal.returns-then-sides-n
-returns-then-sides-n g c = record {
-  solved =
-      (let o = outages c.args.out.now in
-      let v = c.args.sides.now in
-      (cond-true (ltb (length v) (length o)) _ _ (lt-ltb (length v) (length o) (omega arith)), refl));
-  some_solution = vandermonde_some g.F.Field.arith g.met.F.Field.lawful;
-  one_solution = vandermonde_one g.F.Field.arith g.met.F.Field.lawful;
-}
+pub returns-then-sides-n-clause-some_solution : goal.returns-then-sides-n-clause-some_solution
+returns-then-sides-n-clause-some_solution g c = vandermonde_some g.F.Field.arith g.met.F.Field.lawful
+
+pub returns-then-sides-n-clause-one_solution : goal.returns-then-sides-n-clause-one_solution
+returns-then-sides-n-clause-one_solution g c = vandermonde_one g.F.Field.arith g.met.F.Field.lawful
 
 pub returns-then-not-all_codes : goal.returns-then-not-all_codes
 returns-then-not-all_codes g c = record {

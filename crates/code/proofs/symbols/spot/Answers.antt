@@ -17,9 +17,9 @@ overflow_add-result c =
     let w = spot_within (s.q * s.t) (s.q ^ s.t) c.args.node c.args.place c.requires.node c.requires.place in
     omega (arith, words_bound (shaped s))
 
-pub returns : goal.returns
-returns c =
+pub returns-clause-bound : goal.returns-clause-bound
+returns-clause-bound c =
     let s = c.args.shape in
     let e : c.args.node * c.places.result ≡ c.args.node * s.q ^ s.t = cc in
     let w = spot_within (s.q * s.t) (s.q ^ s.t) c.args.node c.args.place c.requires.node c.requires.place in
-    record { value = omega arith; bound = omega arith }
+    omega arith

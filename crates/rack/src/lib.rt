@@ -2,6 +2,7 @@
 #![tactic(auto)]
 
 pub mod counts;
+pub mod lent;
 pub mod node;
 pub mod table;
 pub mod table_error;

@@ -8,6 +8,7 @@ pub mod calls;
 #[derive(Drop)]
 pub struct TableRack {
     nodes: Vec<Node>,
+    // One list for all nodes: a list for each would be asked of the heap one by one, and have a length to be known besides.
     words: Vec<u16>,
     places: usize,
     // There is a word for each place of each node.

@@ -11,8 +11,6 @@ pub trait Rack {
     // The second is the first at another time: on the same lent memory, as well formed, with the same counts.
     ghost kept: { Self → Self → Type 0 };
 
-    ghost keeping: { Keeping model kept };
-
     // How many nodes there are.
     fn nodes(&self) -> usize
         ensures { result ≡ (model self.now).nodes };
@@ -41,15 +39,30 @@ pub trait Rack {
         ensures after { model self.new ≡ after_put (model self.old) node place word }
         ensures stays { kept self.old self.new };
 
+    // Makes a node stand, or makes it out.
+    fn set_standing(&mut self, node: usize, standing: bool) -> Result<(), Refusal>
+        ensures answer { result ≡ done (node_within (model self.old) node) }
+        ensures after { model self.new ≡ after_flag (model self.old) node standing }
+        ensures stays { kept self.old self.new };
+
     // Makes a node out.
     fn take_out(&mut self, node: usize) -> Result<(), Refusal>
         ensures answer { result ≡ done (node_within (model self.old) node) }
         ensures after { model self.new ≡ after_flag (model self.old) node false }
-        ensures stays { kept self.old self.new };
+        ensures stays { kept self.old self.new }
+    {
+        self.set_standing(node, false)
+    }
 
     // Makes a node stand.
     fn raise(&mut self, node: usize) -> Result<(), Refusal>
         ensures answer { result ≡ done (node_within (model self.old) node) }
         ensures after { model self.new ≡ after_flag (model self.old) node true }
-        ensures stays { kept self.old self.new };
+        ensures stays { kept self.old self.new }
+    {
+        self.set_standing(node, true)
+    }
+
+    // At another time it is the same rack, however often.
+    ghost keeping: { Keeping model kept };
 }

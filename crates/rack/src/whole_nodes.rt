@@ -28,16 +28,14 @@ pub fn copy_node<R: Rack>(rack: &mut R, node: usize, out: &mut [u16]) -> Result<
     ensures words { out.new ≡ copied (R.model rack.old) node out.old }
     ensures stays { R.kept rack.old rack.new }
 {
-    let len = out.len();
-    if node >= rack.nodes() || len != rack.places() {
+    if node >= rack.nodes() || out.len() != rack.places() {
         return Err(Refusal::NoSuchPlace);
     }
     if !rack.stands(node) {
         return Err(Refusal::NodeOut);
     }
-    for place in 0..len {
-        let word = rack.get(node, place)?;
-        out[place] = word;
+    for (place, word) in out.iter_mut().enumerate() {
+        *word = rack.get(node, place)?;
     }
     Ok(())
 }
@@ -62,8 +60,7 @@ pub fn move_node<A: Rack, B: Rack>(
         return Err(Refusal::NodeOut);
     }
     for place in 0..places {
-        let word = from.get(node, place)?;
-        to.put(target, place, word)?;
+        to.put(target, place, from.get(node, place)?)?;
     }
     to.raise(target)?;
     from.take_out(node)

@@ -1,16 +1,14 @@
 -- An image is the encoding of the rack that it stands for. Assumes nothing.
-use Rattle.std.proofs.Common.{◌≡◌, ℕ, zero, suc, ◌+◌, ◌-◌, ◌*◌, ◌/◌, ◌%◌, ◌<◌, ◌≤◌, Bool, true, false, cond, eqb, ltb, List, [], ◌∷◌, ◌++◌, length, get_or, sym, refl, ap, ◌∙◌, subst, ⊎_elim, suc-mul, zero-mul, arith}
+use Rattle.std.proofs.Common.{◌≡◌, ℕ, zero, suc, ◌+◌, ◌-◌, ◌*◌, ◌/◌, ◌%◌, ◌<◌, ◌≤◌, true, cond, List, [], ◌∷◌, ◌++◌, length, get_or, sym, refl, ap, ◌∙◌, subst, ⊎_elim, suc-mul, zero-mul, arith, Ok, Err, Result, MatchResult}
 use Rattle.std.proofs.lemmas.Nat.{div-mul-add, mod-mul-add, div-add-mod', div_below, mod_below}
 use Rattle.std.proofs.lemmas.List.{length-append, get_or_append_left, get_or-append-add, get_or_past, ext_get_or}
-use Rattle.std.proofs.lemmas.Bool.{lt-ltb, ltb-true, eq-eqb, eqb-true, cases_lt}
-use Rattle.std.proofs.lemmas.Bool.Decides.{nat_tests}
+use Rattle.std.proofs.lemmas.Bool.{eq-eqb, cases_lt}
+use Rattle.std.proofs.lemmas.Grind.{common_steps}
 use Rattle.refusal.specs.Numbers.{cause_number}
 use Rattle.refusal.specs.declared.reason.Fault.{Fault}
-use Rattle.refusal.specs.declared.reason.Refusal.{Refusal}
-use Rattle.refusal.specs.declared.reason.Refusal.TheVariants as reason
 use Rattle.rack.specs.Model.{Model, fitting}
-use Rattle.rack_image.specs.Image.{image, decoded, record_length, word_bytes, flag_byte, wrong, wrong_at, Formed, joined, record_bytes, record_count, Words16, SameHeld, FirstWrong, Malformed, ImageRefused}
-use Rattle.rack.proofs.Models.{both, place_below, fitting_parts}
+use Rattle.rack_image.specs.Image.{image, decoded, record_length, word_bytes, wrong, wrong_at, Formed, joined, record_bytes, record_count, Words16, SameHeld, FirstWrong, Malformed}
+use Rattle.rack.proofs.Models.{place_below, fitting_parts}
 use Rattle.rack_image.proofs.ImageCounts.{count_is}
 use Rattle.rack_image.proofs.Images.{inside, word_right}
 
@@ -64,13 +62,6 @@ high_at m i p h =
     get_or-append-add (0xC5 ∷ 0x9D ∷ i ∷ cond (m.flags i) 1 0 ∷ []) (joined m.places (node_bytes m i)) (p * 2 + 1) 0
     ∙ getD_joined (node_bytes m i) 2 (λ k. refl) m.places p 1 h (omega arith)
 
-no_cause : (t : Bool) (c : ℕ) → cond t 0 (suc c) ≡ 0 → t ≡ true
-no_cause true c e = refl
-no_cause false c e = absurd (omega arith)
-
-flag_is : (b : ℕ) → b < 2 → b ≡ cond (eqb b 1) 1 0
-flag_is b h = grind (arith, nat_tests)
-
 module _ (n w : ℕ) (bs ms : List ℕ) (f : Formed n w bs) where
   right_at : (i j : ℕ) → i < n → j < record_length w → wrong i j (get_or bs (i * record_length w + j) 0) ≡ 0
   right_at i j hi hj =
@@ -78,40 +69,26 @@ module _ (n w : ℕ) (bs ms : List ℕ) (f : Formed n w bs) where
       ∙ ap (λ x. wrong ((i * record_length w + j) / record_length w) x (get_or bs (i * record_length w + j) 0)) (sym (mod-mul-add i (record_length w) j hj))
       ∙ f.right (i * record_length w + j) (inside n w i j bs (omega (arith, f.long)) hi hj)
 
-  pub word_is : (i p : ℕ) → i < n → p < w → (decoded n w bs ms).words i p ≡ get_or bs (i * record_length w + (4 + 2 * p)) 0 + 256 * get_or bs (i * record_length w + (5 + 2 * p)) 0
-  word_is i p hi hp = ap (λ x. cond x (get_or bs (i * record_length w + (4 + 2 * p)) 0 + 256 * get_or bs (i * record_length w + (5 + 2 * p)) 0) 0) (both (ltb i n) (ltb p w) (lt-ltb i n hi) (lt-ltb p w hp))
-
-  -- a byte of a word
-  low_as : (i p : ℕ) → i < n → p < w → get_or bs (i * record_length w + (4 + (p * 2 + 0))) 0 ≡ get_or (record_bytes (decoded n w bs ms) i) (4 + (p * 2 + 0)) 0
-  low_as i p hi hp =
-      let e : 4 + (p * 2 + 0) ≡ 4 + 2 * p = omega arith in
-      let s = f.small (i * record_length w + (4 + 2 * p)) in
-      let v : (get_or bs (i * record_length w + (4 + 2 * p)) 0 + 256 * get_or bs (i * record_length w + (5 + 2 * p)) 0) % 256 ≡ get_or bs (i * record_length w + (4 + 2 * p)) 0 = omega arith in
-      ap (λ x. get_or bs (i * record_length w + x) 0) e ∙ sym v ∙ ap (λ x. x % 256) (sym (word_is i p hi hp)) ∙ sym (low_at (decoded n w bs ms) i p hp)
-
-  high_as : (i p : ℕ) → i < n → p < w → get_or bs (i * record_length w + (4 + (p * 2 + 1))) 0 ≡ get_or (record_bytes (decoded n w bs ms) i) (4 + (p * 2 + 1)) 0
-  high_as i p hi hp =
-      let e : 4 + (p * 2 + 1) ≡ 5 + 2 * p = omega arith in
-      let s = f.small (i * record_length w + (4 + 2 * p)) in
-      let v : (get_or bs (i * record_length w + (4 + 2 * p)) 0 + 256 * get_or bs (i * record_length w + (5 + 2 * p)) 0) / 256 ≡ get_or bs (i * record_length w + (5 + 2 * p)) 0 = omega arith in
-      ap (λ x. get_or bs (i * record_length w + x) 0) e ∙ sym v ∙ ap (λ x. x / 256) (sym (word_is i p hi hp)) ∙ sym (high_at (decoded n w bs ms) i p hp)
-
   -- a byte of the front of a record
-  flag_as : (i : ℕ) → i < n → get_or bs (i * record_length w + 3) 0 ≡ cond ((decoded n w bs ms).flags i) 1 0
-  flag_as i hi =
-      flag_is (get_or bs (i * record_length w + 3) 0) (ltb-true (get_or bs (i * record_length w + 3) 0) 2 (no_cause (ltb (get_or bs (i * record_length w + 3) 0) 2) 3 (right_at i 3 hi (omega arith))))
-      ∙ ap (λ x. cond (cond x (eqb (get_or bs (i * record_length w + 3) 0) 1) false) 1 0) (sym (lt-ltb i n hi))
-
   front_as : (i j : ℕ) → i < n → j < 4 → get_or bs (i * record_length w + j) 0 ≡ get_or (record_bytes (decoded n w bs ms) i) j 0
-  front_as i zero hi hj = eqb-true (get_or bs (i * record_length w + 0) 0) 0xC5 (no_cause (eqb (get_or bs (i * record_length w + 0) 0) 0xC5) 1 (right_at i 0 hi (omega arith)))
-  front_as i (suc zero) hi hj = eqb-true (get_or bs (i * record_length w + 1) 0) 0x9D (no_cause (eqb (get_or bs (i * record_length w + 1) 0) 0x9D) 1 (right_at i 1 hi (omega arith)))
-  front_as i (suc (suc zero)) hi hj = eqb-true (get_or bs (i * record_length w + 2) 0) i (no_cause (eqb (get_or bs (i * record_length w + 2) 0) i) 2 (right_at i 2 hi (omega arith)))
-  front_as i (suc (suc (suc zero))) hi hj = flag_as i hi
+  front_as i zero hi hj = let r = right_at i 0 hi (omega arith) in grind (arith, common_steps)
+  front_as i (suc zero) hi hj = let r = right_at i 1 hi (omega arith) in grind (arith, common_steps)
+  front_as i (suc (suc zero)) hi hj = let r = right_at i 2 hi (omega arith) in grind (arith, common_steps)
+  front_as i (suc (suc (suc zero))) hi hj = let r = right_at i 3 hi (omega arith) in grind (arith, common_steps)
   front_as i (suc (suc (suc (suc j)))) hi hj = absurd (omega arith)
 
+  -- a byte of a word
   rest_as : (i p b : ℕ) → i < n → p < w → b < 2 → get_or bs (i * record_length w + (4 + (p * 2 + b))) 0 ≡ get_or (record_bytes (decoded n w bs ms) i) (4 + (p * 2 + b)) 0
-  rest_as i p zero hi hp hb = low_as i p hi hp
-  rest_as i p (suc zero) hi hp hb = high_as i p hi hp
+  rest_as i p zero hi hp hb =
+      let e : 4 + (p * 2 + 0) ≡ 4 + 2 * p = omega arith in
+      let l = low_at (decoded n w bs ms) i p hp in
+      let s = f.small (i * record_length w + (4 + 2 * p)) in
+      rw l (ap (λ x. get_or bs (i * record_length w + x) 0) e ∙ grind (arith, common_steps))
+  rest_as i p (suc zero) hi hp hb =
+      let e : 4 + (p * 2 + 1) ≡ 5 + 2 * p = omega arith in
+      let h = high_at (decoded n w bs ms) i p hp in
+      let s = f.small (i * record_length w + (4 + 2 * p)) in
+      rw h (ap (λ x. get_or bs (i * record_length w + x) 0) e ∙ grind (arith, common_steps))
   rest_as i p (suc (suc b)) hi hp hb = absurd (omega arith)
 
   byte_as : (i j : ℕ) → i < n → j < record_length w → get_or bs (i * record_length w + j) 0 ≡ get_or (record_bytes (decoded n w bs ms) i) j 0
@@ -141,33 +118,16 @@ module _ (m : Model) (ms : List ℕ) (few : m.nodes ≤ 16) where
   count_image : record_count m.places (image m) ≡ m.nodes
   count_image = count_is m.nodes m.places (image m) few (length_image m)
 
-  flag_back : (b : Bool) → eqb (flag_byte b) 1 ≡ b
-  flag_back true = refl
-  flag_back false = refl
-
   flag_held : (i : ℕ) → i < m.nodes → (decoded m.nodes m.places (image m) ms).flags i ≡ m.flags i
-  flag_held i hi =
-      ap (λ x. cond x (eqb (get_or (image m) (i * record_length m.places + 3) 0) 1) false) (lt-ltb i m.nodes hi)
-      ∙ ap (λ x. eqb x 1) (image_at m i 3 hi (omega arith))
-      ∙ flag_back (m.flags i)
-
-  low_held : (i p : ℕ) → i < m.nodes → p < m.places → get_or (image m) (i * record_length m.places + (4 + 2 * p)) 0 ≡ m.words i p % 256
-  low_held i p hi hp =
-      let e : 4 + 2 * p ≡ 4 + (p * 2 + 0) = omega arith in
-      image_at m i (4 + 2 * p) hi (omega arith) ∙ ap (λ x. get_or (record_bytes m i) x 0) e ∙ low_at m i p hp
-
-  high_held : (i p : ℕ) → i < m.nodes → p < m.places → get_or (image m) (i * record_length m.places + (5 + 2 * p)) 0 ≡ m.words i p / 256
-  high_held i p hi hp =
-      let e : 5 + 2 * p ≡ 4 + (p * 2 + 1) = omega arith in
-      image_at m i (5 + 2 * p) hi (omega arith) ∙ ap (λ x. get_or (record_bytes m i) x 0) e ∙ high_at m i p hp
+  flag_held i hi = let e = image_at m i 3 hi (omega arith) in grind (arith, common_steps)
 
   word_held : (i p : ℕ) → i < m.nodes → p < m.places → (decoded m.nodes m.places (image m) ms).words i p ≡ m.words i p
   word_held i p hi hp =
-      let v : m.words i p % 256 + 256 * (m.words i p / 256) ≡ m.words i p = omega arith in
-      ap (λ x. cond x (get_or (image m) (i * record_length m.places + (4 + 2 * p)) 0 + 256 * get_or (image m) (i * record_length m.places + (5 + 2 * p)) 0) 0) (both (ltb i m.nodes) (ltb p m.places) (lt-ltb i m.nodes hi) (lt-ltb p m.places hp))
-      ∙ ap (λ x. x + 256 * get_or (image m) (i * record_length m.places + (5 + 2 * p)) 0) (low_held i p hi hp)
-      ∙ ap (λ x. m.words i p % 256 + 256 * x) (high_held i p hi hp)
-      ∙ v
+      let l : 4 + 2 * p ≡ 4 + (p * 2 + 0) = omega arith in
+      let h : 5 + 2 * p ≡ 4 + (p * 2 + 1) = omega arith in
+      let low = image_at m i (4 + 2 * p) hi (omega arith) ∙ ap (λ x. get_or (record_bytes m i) x 0) l ∙ low_at m i p hp in
+      let high = image_at m i (5 + 2 * p) hi (omega arith) ∙ ap (λ x. get_or (record_bytes m i) x 0) h ∙ high_at m i p hp in
+      grind (arith, common_steps)
 
   pub image_held : SameHeld m (decoded (record_count m.places (image m)) m.places (image m) ms)
   image_held = record {
@@ -197,16 +157,12 @@ same_image a b few en ew e =
 
 -- an encoding is an image
 module _ (m : Model) (few : m.nodes ≤ 16) (words : Words16 m) where
-  flag_right : (b : Bool) → (◌≡◌ {A = ℕ} (cond (ltb (flag_byte b) 2) 0 4) 0) × (flag_byte b < 256)
-  flag_right true = (refl, omega arith)
-  flag_right false = (refl, omega arith)
-
   -- a byte of the front of a record, and of a word
   front_right : (i j : ℕ) → i < m.nodes → j < 4 → (wrong i j (get_or (record_bytes m i) j 0) ≡ 0) × (get_or (record_bytes m i) j 0 < 256)
   front_right i zero hi hj = (refl, omega arith)
   front_right i (suc zero) hi hj = (refl, omega arith)
-  front_right i (suc (suc zero)) hi hj = (ap (λ x. cond x 0 3) (eq-eqb i i refl), omega arith)
-  front_right i (suc (suc (suc zero))) hi hj = flag_right (m.flags i)
+  front_right i (suc (suc zero)) hi hj = (grind (arith, common_steps), omega arith)
+  front_right i (suc (suc (suc zero))) hi hj = (grind (arith, common_steps), grind (arith, common_steps))
   front_right i (suc (suc (suc (suc j)))) hi hj = absurd (omega arith)
 
   rest_small : (i p b : ℕ) → i < m.nodes → p < m.places → b < 2 → get_or (record_bytes m i) (4 + (p * 2 + b)) 0 < 256
@@ -218,7 +174,7 @@ module _ (m : Model) (few : m.nodes ≤ 16) (words : Words16 m) where
   rest_right i j hi hj h =
       let e : 4 + ((j - 4) / 2 * 2 + (j - 4) % 2) ≡ j = omega (arith, div-add-mod' (j - 4) 2) in
       let e' : 4 + (j - 4) ≡ j = omega arith in (
-        subst (λ x. wrong i x (get_or (record_bytes m i) j 0) ≡ 0) e' (word_right i (j - 4) (get_or (record_bytes m i) j 0)),
+        word_right i j (get_or (record_bytes m i) j 0) h,
         subst (λ x. get_or (record_bytes m i) x 0 < 256) e (rest_small i ((j - 4) / 2) ((j - 4) % 2) hi (omega arith) (mod_below (j - 4) 2 (omega arith))),
       )
 
@@ -253,15 +209,10 @@ not_malformed n w bs f ok bad =
     let b = subst (λ t. cond t (FirstWrong w bs f.byte × (f.record ≡ f.byte / record_length w) × (cause_number f.cause ≡ wrong_at w bs f.byte)) ((f.record ≡ 0) × (f.byte ≡ 0) × (cause_number f.cause ≡ 1))) (eq-eqb (length bs) (n * record_length w) ok.long) bad in
     b.0.bad (ok.right f.byte b.0.inside)
 
--- an encoding is not refused
-pub not_refused : (m : Model) (n w : ℕ) (bs : List ℕ) (e : Refusal) → m.nodes ≡ n → m.places ≡ w → fitting n w ≡ true → Words16 m → bs ≡ image m → ImageRefused n w bs e → ⊥
-not_refused m n w bs e en ew fit ws eb bad =
-    let b = subst (λ t. cond t ((f : Fault) × (e ≡ reason.Image f) × (f.room ≡ 0) × Malformed n w bs f) (e ≡ reason.Size)) fit bad in
+-- an encoding is found to be formed
+pub accepted : (m : Model) (n w : ℕ) (bs : List ℕ) → m.nodes ≡ n → m.places ≡ w → fitting n w ≡ true → Words16 m → bs ≡ image m → (r : Result (Unit {0}) Fault) → MatchResult r (λ _. Formed n w bs) (λ f. (f.room ≡ 0) × Malformed n w bs f) → r ≡ Ok tt
+accepted m n w bs en ew fit ws eb (Ok u) found = refl
+accepted m n w bs en ew fit ws eb (Err f) found =
     let few : m.nodes ≤ 16 = omega (arith, (fitting_parts n w fit).0) in
     let formed = subst (λ x. Formed n x bs) ew (subst (λ x. Formed x m.places bs) en (subst (λ x. Formed m.nodes m.places x) (sym eb) (image_formed m few ws))) in
-    not_malformed n w bs b.0 formed b.3
-
--- the clauses of a check that found a fault
-pub refused_for : (n w : ℕ) (bs : List ℕ) (f : Fault) → fitting n w ≡ true → f.room ≡ 0 → Malformed n w bs f → ImageRefused n w bs (reason.Image f)
-refused_for n w bs f fit home bad =
-    subst (λ t. cond t ((g : Fault) × (reason.Image f ≡ reason.Image g) × (g.room ≡ 0) × Malformed n w bs g) (reason.Image f ≡ reason.Size)) (sym fit) (f, refl, home, bad)
+    absurd (not_malformed n w bs f formed found.1)

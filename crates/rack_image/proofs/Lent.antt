@@ -1,6 +1,7 @@
 -- What lent bytes hold once the rack over them is let go. Assumes nothing.
-use Rattle.std.proofs.Common.{◌≡◌, ℕ, Bool, true, false, cond, ◌&&◌, List, length, Ok, Err, Result, sym, refl, ap, ◌∙◌, ap₂, inr, arith, MatchResult}
+use Rattle.std.proofs.Common.{◌≡◌, ℕ, Bool, true, false, cond, ◌&&◌, List, length, Ok, Err, Result, sym, ap, ◌∙◌, ap₂, inr, arith, MatchResult}
 use Rattle.std.proofs.lemmas.Bool.{and_from}
+use Rattle.std.proofs.lemmas.Grind.{common_steps}
 use Rattle.refusal.specs.declared.reason.Refusal.{Refusal}
 use Rattle.rack_image.specs.declared.image.ImageRack.{ImageRack}
 use Rattle.rack.specs.Model.{Model, fitting, done}
@@ -28,15 +29,11 @@ fill_cases m m' bs bs' ws n w i (Err e) fit formed held b b' was left =
     )
 
 drawn_was_ok : (fits stands : Bool) → Ok tt ≡ drawn fits stands → (fits ≡ true) × (stands ≡ true)
-drawn_was_ok true true e = (refl, refl)
-drawn_was_ok true false e = let z : ◌≡◌ {A = ℕ} 0 1 = cc in absurd (omega arith)
-drawn_was_ok false stands e = let z : ◌≡◌ {A = ℕ} 0 1 = cc in absurd (omega arith)
+drawn_was_ok fits stands e = (grind (arith, common_steps), grind (arith, common_steps))
 
 -- nothing goes where the answer is a refusal
 drawn_was_err : (fits stands : Bool) (e : Refusal) → Err e ≡ drawn fits stands → (fits && stands) ≡ false
-drawn_was_err true true e was = let z : ◌≡◌ {A = ℕ} 0 1 = cc in absurd (omega arith)
-drawn_was_err true false e was = refl
-drawn_was_err false stands e was = refl
+drawn_was_err fits stands e was = grind (arith, common_steps)
 
 -- a node of one room was moved to the other, or not
 module _ (a a' b b' : Model) (xs xs' ys ys' : List ℕ) (n m w i j : ℕ) (fit : rooms_fit n m w ≡ true) (first : Formed n w xs) (second : Formed m w ys) (was_a : a ≡ opened w xs) (was_b : b ≡ opened w ys) (x : xs ≡ image a) (x' : xs' ≡ image a') (y : ys ≡ image b) (y' : ys' ≡ image b') (source : a' ≡ after_move_from a i b j) (sink : b' ≡ after_move_to a i b j) where

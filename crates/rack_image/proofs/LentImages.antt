@@ -1,10 +1,8 @@
 -- What lent bytes hold when the rack over them has been used. Assumes nothing.
-use Rattle.std.proofs.Common.{◌≡◌, ℕ, ◌+◌, ◌*◌, ◌≤◌, true, ◌&&◌, leb, List, length, sym, ap, ◌∙◌, subst}
-use Rattle.std.proofs.lemmas.Bool.{and_parts}
+use Rattle.std.proofs.Common.{◌≡◌, ℕ, ◌*◌, ◌≤◌, true, List, length, sym, ap, ◌∙◌, subst, arith}
+use Rattle.std.proofs.lemmas.Grind.{common_steps}
 use Rattle.rack_image.specs.declared.image.ImageRack.{ImageRack}
-use Rattle.rack.specs.Model.{fitting}
 use Rattle.rack_image.specs.Image.{image, image_model, record_length, opened, Formed, rooms_fit}
-use Rattle.rack.proofs.Models.{fitting_parts}
 use Rattle.rack_image.proofs.Encoding.{formed_image}
 use Rattle.rack_image.proofs.ImageCounts.{count_is}
 
@@ -29,7 +27,7 @@ module _ (s : ImageRack) (n w : ℕ) (bs : List ℕ) (few : n ≤ 16) (formed : 
 
 -- each room of two that fit has few nodes
 pub few_first : (n m w : ℕ) → rooms_fit n m w ≡ true → n ≤ 16
-few_first n m w fit = (fitting_parts n w (and_parts (fitting n w) (fitting m w) (and_parts (fitting n w && fitting m w) (leb (n + m) 16) fit).0).0).0
+few_first n m w fit = grind (arith, common_steps)
 
 pub few_second : (n m w : ℕ) → rooms_fit n m w ≡ true → m ≤ 16
-few_second n m w fit = (fitting_parts m w (and_parts (fitting n w) (fitting m w) (and_parts (fitting n w && fitting m w) (leb (n + m) 16) fit).0).1).0
+few_second n m w fit = grind (arith, common_steps)

@@ -1,8 +1,9 @@
 // Whether bytes are an image: the counts are looked at first, then the length, then byte by byte.
-ghost use Rattle.std.specs.Prelude.{◌≡◌, true, Ok, MatchOption, MatchResult};
+ghost use Rattle.std.specs.Prelude.{◌≡◌, true, Ok, MatchResult};
 ghost use Rattle.rack.specs.Model.{Model, fitting};
 ghost use Rattle.rack_image.specs.Image.{wrong, found_cause, Formed, Malformed, ImageRefused, ImagesRefused, rooms_fit, Words16, image};
 
+use crate::image::record_length;
 use rack::fit;
 use refusal::{Cause, Fault, Refusal};
 
@@ -19,14 +20,14 @@ fn wrong_byte(number: usize, offset: usize, byte: u8) -> Option<Cause>
     }
 }
 
-// Where the image of a room is malformed, if it is.
-fn examine(bytes: &[u8], nodes: usize, places: usize, room: u8) -> Option<Fault>
+// Whether the image of a room is formed, or where it is malformed.
+fn examine(bytes: &[u8], nodes: usize, places: usize, room: u8) -> Result<(), Fault>
     requires { fitting nodes places ≡ true }
-    ensures { MatchOption result (Formed nodes places bytes.now) (λ f. (f.room ≡ room) × Malformed nodes places bytes.now f) }
+    ensures { MatchResult result (λ _. Formed nodes places bytes.now) (λ f. (f.room ≡ room) × Malformed nodes places bytes.now f) }
 {
-    let long = 4 + 2 * places;
+    let long = record_length(places);
     if bytes.len() != nodes * long {
-        return Some(Fault {
+        return Err(Fault {
             room,
             record: 0,
             byte: 0,
@@ -36,7 +37,7 @@ fn examine(bytes: &[u8], nodes: usize, places: usize, room: u8) -> Option<Fault>
     for (at, byte) in bytes.iter().enumerate() {
         let record = at / long;
         if let Some(cause) = wrong_byte(record, at % long, *byte) {
-            return Some(Fault {
+            return Err(Fault {
                 room,
                 record,
                 byte: at,
@@ -44,7 +45,7 @@ fn examine(bytes: &[u8], nodes: usize, places: usize, room: u8) -> Option<Fault>
             });
         }
     }
-    None
+    Ok(())
 }
 
 // Whether the bytes are an image of so many nodes with so many places.
@@ -55,13 +56,11 @@ pub fn check_image(bytes: &[u8], nodes: usize, places: usize) -> Result<(), Refu
     if !fit(nodes, places) {
         return Err(Refusal::Size);
     }
-    match examine(bytes, nodes, places, 0) {
-        None => Ok(()),
-        Some(fault) => Err(Refusal::Image(fault)),
-    }
+    examine(bytes, nodes, places, 0).map_err(Refusal::Image)
 }
 
 // Whether the bytes are the images of the two rooms of a pair; the first room is looked at first.
+// The rooms are two pairs of bytes and a count: one struct for both would be made for this call and taken apart in it.
 pub fn check_images(
     first: &[u8],
     second: &[u8],
@@ -74,11 +73,6 @@ pub fn check_images(
     if !fit(first_nodes, places) || !fit(second_nodes, places) || first_nodes + second_nodes > 16 {
         return Err(Refusal::Size);
     }
-    if let Some(fault) = examine(first, first_nodes, places, 0) {
-        return Err(Refusal::Image(fault));
-    }
-    match examine(second, second_nodes, places, 1) {
-        None => Ok(()),
-        Some(fault) => Err(Refusal::Image(fault)),
-    }
+    examine(first, first_nodes, places, 0).map_err(Refusal::Image)?;
+    examine(second, second_nodes, places, 1).map_err(Refusal::Image)
 }

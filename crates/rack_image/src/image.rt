@@ -1,7 +1,8 @@
 // A rack over lent bytes: a record for each node, in order.
-ghost use Rattle.std.specs.Prelude.{◌≡◌, ℕ, ◌+◌, ◌*◌, ◌/◌, ◌<◌, ◌≤◌, min, length, MatchOption, refl};
+ghost use Rattle.std.specs.Prelude.{◌≡◌, ℕ, ◌+◌, ◌*◌, ◌/◌, ◌<◌, ◌≤◌, min, false, length, MatchResult, refl};
 ghost use Rattle.std.proofs.Common.{◌∙◌};
-ghost use Rattle.rack.specs.Model.{Model};
+ghost use Rattle.refusal.specs.declared.reason.Refusal.TheVariants.{NoSuchPlace};
+ghost use Rattle.rack.specs.Model.{Model, within};
 ghost use Rattle.rack_image.specs.Image.{image, image_model, opened, record_count, record_length, Formed, SameHeld};
 
 use rack::Rack;
@@ -11,7 +12,15 @@ use refusal::Refusal;
 pub struct ImageRack<'a> {
     bytes: &'a mut [u8],
     places: usize,
+    // In fixed memory: a meter for each node that there can be.
     meters: [u64; 16],
+}
+
+// How many bytes a record of so many places has, or as many as can be counted.
+pub(crate) fn record_length(places: usize) -> usize
+    ensures { result ≡ min usize.MAX (record_length places) }
+{
+    places.saturating_mul(2).saturating_add(4)
 }
 
 impl<'a> ImageRack<'a> {
@@ -40,14 +49,23 @@ impl<'a> ImageRack<'a> {
     }
 
     // The byte at which a node's record starts, if there is such a node.
-    fn record_start(&self, node: usize) -> Option<usize>
-        ensures { MatchOption result (record_count self.now.places self.now.bytes.now ≤ node) (λ s. (node < record_count self.now.places self.now.bytes.now) × (s ≡ node * record_length self.now.places) × (s + record_length self.now.places ≤ length self.now.bytes.now)) }
+    fn record_of(&self, node: usize) -> Result<usize, Refusal>
+        ensures { MatchResult result (λ s. (node < record_count self.now.places self.now.bytes.now) × (s ≡ node * record_length self.now.places) × (s + record_length self.now.places ≤ length self.now.bytes.now)) (λ e. (record_count self.now.places self.now.bytes.now ≤ node) × (e ≡ NoSuchPlace)) }
     {
-        if node < self.nodes() {
-            Some(node * (4 + 2 * self.places))
-        } else {
-            None
+        if node >= self.nodes() {
+            return Err(Refusal::NoSuchPlace);
         }
+        Ok(node * record_length(self.places))
+    }
+
+    // The same, of a node that has to have such a place.
+    fn record_with(&self, node: usize, place: usize) -> Result<usize, Refusal>
+        ensures { MatchResult result (λ s. (node < record_count self.now.places self.now.bytes.now) × (place < self.now.places) × (s ≡ node * record_length self.now.places) × (s + record_length self.now.places ≤ length self.now.bytes.now)) (λ e. (within (image_model self.now) node place ≡ false) × (e ≡ NoSuchPlace)) }
+    {
+        if place >= self.places {
+            return Err(Refusal::NoSuchPlace);
+        }
+        self.record_of(node)
     }
 }
 
@@ -59,11 +77,7 @@ impl<'a> Rack for ImageRack<'a> {
     ghost keeping = { record { same = λ x. (refl, refl, refl, λ n f. f); joined = λ x y z p q. (q.0 ∙ p.0, q.1 ∙ p.1, q.2 ∙ p.2, λ n f. q.3 n (p.3 n f)); same_nodes = λ x y p. λ j. min 16 (p.1 j / record_length (p.2 j)); same_places = λ x y p. p.2 } };
 
     fn nodes(&self) -> usize {
-        let len = self.bytes.len();
-        if len < 4 || self.places > (len - 4) / 2 {
-            return 0;
-        }
-        (len / (4 + 2 * self.places)).min(16)
+        (self.bytes.len() / record_length(self.places)).min(16)
     }
 
     fn places(&self) -> usize {
@@ -71,10 +85,8 @@ impl<'a> Rack for ImageRack<'a> {
     }
 
     fn stands(&self, node: usize) -> bool {
-        match self.record_start(node) {
-            Some(start) => self.bytes[start + 3] == 1,
-            None => false,
-        }
+        self.record_of(node)
+            .is_ok_and(|start| self.bytes[start + 3] == 1)
     }
 
     fn meter(&self, node: usize) -> u64 {
@@ -86,46 +98,27 @@ impl<'a> Rack for ImageRack<'a> {
     }
 
     fn get(&mut self, node: usize, place: usize) -> Result<u16, Refusal> {
-        let Some(start) = self.record_start(node) else {
-            return Err(Refusal::NoSuchPlace);
-        };
-        if place >= self.places {
-            return Err(Refusal::NoSuchPlace);
-        }
+        let start = self.record_with(node, place)?;
         if self.bytes[start + 3] != 1 {
             return Err(Refusal::NodeOut);
         }
         self.meters[node] = self.meters[node].wrapping_add(1);
-        let low = self.bytes[start + (4 + 2 * place)] as u16;
-        let high = self.bytes[start + (5 + 2 * place)] as u16;
-        Ok(low + 256 * high)
+        let at = start + 4 + 2 * place;
+        Ok(u16::from_le_bytes([self.bytes[at], self.bytes[at + 1]]))
     }
 
     fn put(&mut self, node: usize, place: usize, word: u16) -> Result<(), Refusal> {
-        let Some(start) = self.record_start(node) else {
-            return Err(Refusal::NoSuchPlace);
-        };
-        if place >= self.places {
-            return Err(Refusal::NoSuchPlace);
-        }
-        self.bytes[start + (4 + 2 * place)] = (word % 256) as u8;
-        self.bytes[start + (5 + 2 * place)] = (word / 256) as u8;
+        let start = self.record_with(node, place)?;
+        let at = start + 4 + 2 * place;
+        let [low, high] = word.to_le_bytes();
+        self.bytes[at] = low;
+        self.bytes[at + 1] = high;
         Ok(())
     }
 
-    fn take_out(&mut self, node: usize) -> Result<(), Refusal> {
-        let Some(start) = self.record_start(node) else {
-            return Err(Refusal::NoSuchPlace);
-        };
-        self.bytes[start + 3] = 0;
-        Ok(())
-    }
-
-    fn raise(&mut self, node: usize) -> Result<(), Refusal> {
-        let Some(start) = self.record_start(node) else {
-            return Err(Refusal::NoSuchPlace);
-        };
-        self.bytes[start + 3] = 1;
+    fn set_standing(&mut self, node: usize, standing: bool) -> Result<(), Refusal> {
+        let start = self.record_of(node)?;
+        self.bytes[start + 3] = u8::from(standing);
         Ok(())
     }
 }

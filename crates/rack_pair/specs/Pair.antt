@@ -2,7 +2,7 @@
 use Rattle.std.specs.Prelude.{◌≡◌, ℕ, ◌+◌, ◌-◌, ◌<◌, ◌≤◌, min, Bool, cond, ◌&&◌, ◌==◌, nat_le, nat_lt}
 use Rattle.rack.specs.Model.{Model}
 use Rattle.rack_pair.specs.declared.seat.Seat.{Seat}
-use Rattle.rack_pair.specs.declared.seat.Seat.TheVariants.{First, Second, Nowhere}
+use Rattle.rack_pair.specs.declared.seat.Seat.TheVariants.{First, Second}
 
 -- f below n, and g, counted from n, above
 abbrev pub followed : {X : Type 0} → ℕ → (ℕ → X) → (ℕ → X) → ℕ → X
@@ -26,7 +26,6 @@ matching a b = a.places == b.places && nat_le (a.nodes + b.nodes) 16
 abbrev pub Placed : Model → Model → ℕ → Seat → Type 0
 Placed a b i (First k) = (i < (paired a b).nodes) × (i < a.nodes) × (k ≡ i)
 Placed a b i (Second k) = (i < (paired a b).nodes) × (a.nodes ≤ i) × (k ≡ i - a.nodes)
-Placed a b i Nowhere = (paired a b).nodes ≤ i
 
 -- the first n nodes of a rack, and the k nodes after them
 abbrev pub first_room : ℕ → Model → Model

@@ -4,7 +4,6 @@
 pub mod lent_pair;
 pub mod lent_rooms;
 pub mod pair;
-mod rooms;
 mod seat;
 
 pub use lent_pair::LentPair;

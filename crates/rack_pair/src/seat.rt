@@ -3,5 +3,4 @@
 pub enum Seat {
     First(usize),
     Second(usize),
-    Nowhere,
 }

@@ -1,8 +1,8 @@
 // Pairs of any racks.
 use rack::{Rack, TableRack};
 use rack_image::ImageRack;
-use rack_pair::join;
-use rack_tools::{copy_node, fill_node};
+use rack_pair::{LentPair, join};
+use rack_tools::{copy_node, fill_node, fill_pair};
 use refusal::Refusal;
 use std::process::Abort;
 use std::test::Fail;
@@ -77,6 +77,35 @@ fn pair_of_pairs(rt: HostRuntime) -> Result<(), Fail> {
         return Err(Fail::new("second"));
     };
     two_and_two(&rt, first, second)
+}
+
+#[test]
+fn lent_racks(rt: HostRuntime) -> Result<(), Fail> {
+    let mut bytes = [
+        0xC5, 0x9D, 0, 0, 0, 0, 0, 0, 0, 0, 0xC5, 0x9D, 1, 0, 0, 0, 0, 0, 0, 0,
+    ];
+    let mut table = TableRack::new(rt.alloc(), 2, 3)?;
+    two_and_two(&rt, &mut table, ImageRack::over(&mut bytes, 3))?;
+    assert!(rt; bytes[3] == 1 && bytes[4] == 7 && !table.stands(0));
+    Ok(())
+}
+
+#[test]
+fn lent_pair(rt: HostRuntime) -> Result<(), Fail> {
+    let mut first = TableRack::new(rt.alloc(), 2, 3)?;
+    let mut second = TableRack::new(rt.alloc(), 2, 3)?;
+    assert_eq!(rt; fill_pair(&mut first, &mut second, 3, &[4, 5, 6]), Ok(()));
+    assert!(rt; second.stands(1) && !first.stands(1));
+    let mut pair = LentPair {
+        first: &mut first,
+        second: &mut second,
+    };
+    assert!(rt; pair.nodes() == 4 && pair.places() == 3);
+    assert_eq!(rt; pair.get(3, 2), Ok(6));
+    assert_eq!(rt; pair.raise(0), Ok(()));
+    assert_eq!(rt; pair.raise(4), Err(Refusal::NoSuchPlace));
+    assert!(rt; first.stands(0) && second.meter(1) == 1);
+    Ok(())
 }
 
 #[test]

@@ -1,25 +1,16 @@
 // The table rack.
 use rack::{Node, Rack, TableError, TableRack};
 use refusal::Refusal;
-use std::alloc::Global;
 use std::test::Fail;
-
-// Why no table of these counts is made.
-fn refused(heap: Global, nodes: usize, places: usize) -> Option<TableError> {
-    match TableRack::new(heap, nodes, places) {
-        Ok(_) => None,
-        Err(e) => Some(e),
-    }
-}
 
 #[test]
 fn counts_fit(rt: HostRuntime) {
     let size = Some(TableError::Refused(Refusal::Size));
-    assert_eq!(rt; refused(rt.alloc(), 0, 1), size);
-    assert_eq!(rt; refused(rt.alloc(), 17, 1), size);
-    assert_eq!(rt; refused(rt.alloc(), 1, 0), size);
-    assert_eq!(rt; refused(rt.alloc(), 1, 257), size);
-    assert_eq!(rt; refused(rt.alloc(), 16, 256), None);
+    assert_eq!(rt; TableRack::new(rt.alloc(), 0, 1).err(), size);
+    assert_eq!(rt; TableRack::new(rt.alloc(), 17, 1).err(), size);
+    assert_eq!(rt; TableRack::new(rt.alloc(), 1, 0).err(), size);
+    assert_eq!(rt; TableRack::new(rt.alloc(), 1, 257).err(), size);
+    assert_eq!(rt; TableRack::new(rt.alloc(), 16, 256).err(), None);
 }
 
 #[test]
@@ -29,7 +20,13 @@ fn meters_return_to_zero(rt: HostRuntime) {
         meter: u64::MAX,
     };
     node.draw();
-    assert!(rt; node.meter == 0 && node.standing);
+    assert_eq!(rt;
+        node,
+        Node {
+            standing: true,
+            meter: 0,
+        }
+    );
     node.draw();
     assert!(rt; node.meter == 1);
 }

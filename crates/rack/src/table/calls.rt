@@ -1,7 +1,8 @@
 // A new table, and what it does as a rack.
-ghost use Rattle.std.specs.Prelude.{◌≡◌, true, MatchResult, refl};
+ghost use Rattle.std.specs.Prelude.{◌≡◌, ◌+◌, ◌*◌, ◌<◌, true, false, MatchResult, vec_len, refl};
 ghost use Rattle.std.proofs.Common.{◌∙◌};
-ghost use Rattle.rack.specs.Model.{fitting, fresh};
+ghost use Rattle.refusal.specs.declared.reason.Refusal.TheVariants.{NoSuchPlace};
+ghost use Rattle.rack.specs.Model.{fitting, fresh, within};
 ghost use Rattle.rack.specs.Table.{table_model, not_made};
 
 use crate::counts::fit;
@@ -18,23 +19,23 @@ impl TableRack {
         ensures { MatchResult result (λ t. (fitting nodes places ≡ true) × (table_model t ≡ fresh nodes places)) (λ e. e ≡ not_made nodes places) }
     {
         if !fit(nodes, places) {
-            return Err(TableError::Refused(Refusal::Size));
+            return Err(Refusal::Size.into());
         }
-        let blank = Node {
-            standing: false,
-            meter: 0,
-        };
-        let Ok(table) = Vec::from_elem(heap, blank, nodes) else {
-            return Err(TableError::NoMemory);
-        };
-        let Ok(words) = Vec::from_elem(heap, 0u16, nodes * places) else {
-            return Err(TableError::NoMemory);
-        };
         Ok(TableRack {
-            nodes: table,
-            words,
+            nodes: vec![in heap; Node::default(); nodes]?,
+            words: vec![in heap; 0; nodes * places]?,
             places,
         })
+    }
+
+    // Where the word at a place of a node lies, if there is such a place.
+    fn word_at(&self, node: usize, place: usize) -> Result<usize, Refusal>
+        ensures { MatchResult result (λ at. (node < vec_len self.now.nodes) × (place < self.now.places) × (at ≡ node * self.now.places + place) × (at < vec_len self.now.words)) (λ e. (within (table_model self.now) node place ≡ false) × (e ≡ NoSuchPlace)) }
+    {
+        if node >= self.nodes.len() || place >= self.places {
+            return Err(Refusal::NoSuchPlace);
+        }
+        Ok(node * self.places + place)
     }
 }
 
@@ -54,50 +55,32 @@ impl Rack for TableRack {
     }
 
     fn stands(&self, node: usize) -> bool {
-        node < self.nodes.len() && self.nodes[node].standing
+        self.nodes.get(node).is_some_and(|n| n.standing)
     }
 
     fn meter(&self, node: usize) -> u64 {
-        if node < self.nodes.len() {
-            self.nodes[node].meter
-        } else {
-            0
-        }
+        self.nodes.get(node).map_or(0, |n| n.meter)
     }
 
     fn get(&mut self, node: usize, place: usize) -> Result<u16, Refusal> {
-        if node >= self.nodes.len() || place >= self.places {
-            return Err(Refusal::NoSuchPlace);
-        }
-        if !self.nodes[node].standing {
+        let at = self.word_at(node, place)?;
+        let held = &mut self.nodes[node];
+        if !held.standing {
             return Err(Refusal::NodeOut);
         }
-        self.nodes[node].draw();
-        Ok(self.words[node * self.places + place])
+        held.draw();
+        Ok(self.words[at])
     }
 
     fn put(&mut self, node: usize, place: usize, word: u16) -> Result<(), Refusal> {
-        if node >= self.nodes.len() || place >= self.places {
-            return Err(Refusal::NoSuchPlace);
-        }
-        let at = node * self.places + place;
+        let at = self.word_at(node, place)?;
         self.words[at] = word;
         Ok(())
     }
 
-    fn take_out(&mut self, node: usize) -> Result<(), Refusal> {
-        if node >= self.nodes.len() {
-            return Err(Refusal::NoSuchPlace);
-        }
-        self.nodes[node].standing = false;
-        Ok(())
-    }
-
-    fn raise(&mut self, node: usize) -> Result<(), Refusal> {
-        if node >= self.nodes.len() {
-            return Err(Refusal::NoSuchPlace);
-        }
-        self.nodes[node].standing = true;
+    fn set_standing(&mut self, node: usize, standing: bool) -> Result<(), Refusal> {
+        let held = self.nodes.get_mut(node).ok_or(Refusal::NoSuchPlace)?;
+        held.standing = standing;
         Ok(())
     }
 }

@@ -5,5 +5,8 @@ use Rattle.rack.proofs.whole_nodes.copy_node.Given as goal
 abbrev pub invariant-loop-place : goal.invariant-loop-place
 invariant-loop-place g l =
     let r = g.R.Rack in
-    r.kept l.initial.rack l.rack × (r.model l.rack ≡ with_draws (r.model l.initial.rack) l.node l.place)
-    × ((q : ℕ) → q < l.place → get_or l.out q 0 ≡ (r.model l.initial.rack).words l.node q)
+    record {
+      stays : r.kept l.initial.rack l.rack;
+      drawn : r.model l.rack ≡ with_draws (r.model l.initial.rack) l.node l.place;
+      words : (q : ℕ) → q < l.place → get_or l.out q 0 ≡ (r.model l.initial.rack).words l.node q;
+    }

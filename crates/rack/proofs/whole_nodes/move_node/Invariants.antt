@@ -6,6 +6,9 @@ abbrev pub invariant-loop-place : goal.invariant-loop-place
 invariant-loop-place g l =
     let a = g.A.Rack in
     let b = g.B.Rack in
-    a.kept l.initial.from l.from × b.kept l.initial.to l.to
-    × (a.model l.from ≡ with_draws (a.model l.initial.from) l.node l.place)
-    × (b.model l.to ≡ with_words (b.model l.initial.to) l.target ((a.model l.initial.from).words l.node) l.place)
+    record {
+      source_stays : a.kept l.initial.from l.from;
+      sink_stays : b.kept l.initial.to l.to;
+      drawn : a.model l.from ≡ with_draws (a.model l.initial.from) l.node l.place;
+      written : b.model l.to ≡ with_words (b.model l.initial.to) l.target ((a.model l.initial.from).words l.node) l.place;
+    }

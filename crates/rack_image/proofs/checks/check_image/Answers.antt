@@ -1,10 +1,9 @@
-use Rattle.std.proofs.Common.{sym, ◌∙◌}
-use Rattle.rack_image.proofs.Encoding.{refused_for, not_refused}
+use Rattle.std.proofs.Common.{arith}
+use Rattle.std.proofs.lemmas.Grind.{common_steps}
+use Rattle.rack_image.proofs.Encoding.{accepted}
 use Rattle.rack_image.proofs.checks.check_image.Goals as goal
 
-pub returns-in-Some : goal.returns-in-Some
-returns-in-Some c =
-    let bad = c.in-Some.ensures in
-    let fits = sym c.fit.ensures ∙ c.if-not-fit.false in
-    let refused = refused_for c.args.nodes c.args.places c.args.bytes.now c.in-Some.fault fits bad.0 bad.1 in
-    record { answer = refused; accepts = λ m en ew fit ws eb. absurd (not_refused m _ _ _ _ en ew fit ws eb refused) }
+pub returns-clause-accepts : goal.returns-clause-accepts
+returns-clause-accepts c = λ m en ew fit ws eb.
+    let e = accepted m _ _ _ en ew fit ws eb c.examine.result c.examine.ensures in
+    grind (arith, common_steps, e, c.map_err.ensures.cases)

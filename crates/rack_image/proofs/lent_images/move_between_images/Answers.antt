@@ -1,12 +1,6 @@
-use Rattle.std.proofs.Common.{refl, inl, rules}
-use Rattle.std.proofs.lemmas.Result.{err_from_is_err_and}
+use Rattle.std.proofs.Common.{rules}
 use Rattle.rack_image.proofs.Lent.{lent_moved}
 use Rattle.rack_image.proofs.lent_images.move_between_images.Goals as goal
-
-pub returns-in_err-check_images : goal.returns-in_err-check_images
-returns-in_err-check_images c =
-    let p = err_from_is_err_and c.from_residual.result c.from_residual.ensures.1 in
-    rw (p.1, p.2) (refl, refl, inl c.in_err-check_images.ensures)
 
 pub returns : goal.returns
 returns c =

@@ -1,12 +1,6 @@
-use Rattle.std.proofs.Common.{refl, inl, rules}
-use Rattle.std.proofs.lemmas.Result.{err_from_is_err_and}
+use Rattle.std.proofs.Common.{rules}
 use Rattle.rack_pair.proofs.LentRooms.{lent_rooms}
 use Rattle.rack_pair.proofs.lent_rooms.fill_rooms.Goals as goal
-
-pub returns-in_err-check_images : goal.returns-in_err-check_images
-returns-in_err-check_images c =
-    let p = err_from_is_err_and c.from_residual.result c.from_residual.ensures.1 in
-    rw (p.1, p.2) (refl, refl, inl c.in_err-check_images.ensures)
 
 pub returns : goal.returns
 returns c =

@@ -1,4 +1,4 @@
-// The calls of a vault, each on its own rack.
+// The calls of a vault, each on its own rack: the functions of `vault_calls`, which stay for racks that are lent.
 ghost use Rattle.std.specs.Prelude.{◌≡◌, ◌*◌, ◌^◌, true, false, length, MatchResult};
 ghost use Rattle.refusal.specs.declared.reason.Refusal.TheVariants.{Size};
 ghost use Rattle.shape.specs.Listing.{outages as list_of};

@@ -28,10 +28,10 @@ impl<F: Field + Drop, R: Rack> Vault<F, R> {
     pub fn open(shape: Shape, field: F, rack: R) -> Result<Vault<F, R>, NotOpened<R>>
         ensures { MatchResult result (λ v. (wrong_size shape.q shape.t (R.model rack) ≡ false) × (v.shape ≡ shape) × (v.rack ≡ rack)) (λ e. (wrong_size shape.q shape.t (R.model rack) ≡ true) × (e.why ≡ Size) × (e.rack ≡ rack)) }
     {
-        match fits(shape, &rack) {
-            Ok(()) => Ok(Vault { shape, field, rack }),
-            Err(why) => Err(NotOpened { why, rack }),
+        if let Err(why) = fits(shape, &rack) {
+            return Err(NotOpened { why, rack });
         }
+        Ok(Vault { shape, field, rack })
     }
 
     // Gives the rack back.

@@ -2,19 +2,17 @@
 use Rattle.std.proofs.Common.{◌≡◌, ℕ, ◌+◌, ◌-◌, ◌*◌, ◌/◌, ◌%◌, ◌^◌, ◌<◌, ◌≤◌, true, false, cond, not, eqb, ltb, ◌⊎◌, List, length, get_or, set, Some, None, Ok, Err, sym, refl, ap, ◌∙◌, ap₂, inl, inr, mod-lt, div-lt_iff_lt-mul, mul-le-mul_left, add-one, arith}
 use Rattle.std.proofs.lemmas.List.{get_or-set_same, get_or-set_other}
 use Rattle.std.proofs.lemmas.Bool.{cases_eq, eq-eqb, ne_eqb, lt-ltb, le-ltb, cond-false}
-use Rattle.code.proofs.Codes.{every_same}
 use Rattle.shape.specs.Outages.{count, every}
 use Rattle.shape.proofs.Counts.{count_more}
 use Rattle.shape.proofs.Every.{every_at}
-use Rattle.rack.specs.Model.{Model, changed, risen, with_draw, standing, got, after_get}
+use Rattle.rack.specs.Model.{Model, changed, risen, with_draw, got, after_get}
 use Rattle.rack.proofs.Models.{same_model, changed_same, changed_other, got_was_ok, got_was_err, after_get_ok}
 use Rattle.refusal.specs.First.{first}
 use Rattle.refusal.specs.declared.reason.Refusal.{Refusal}
 use Rattle.refusal.specs.declared.reason.Refusal.TheVariants.{Size, NoSuchPlace, NodeOut}
 use Rattle.vault_calls.specs.Calls.{wrong_size, read_refusal, read_meters, held, Now}
 use Rattle.vault_calls.specs.Steps.{read_drawn}
-use Rattle.vault_calls.proofs.Listing.{standing_flag}
-use Rattle.vault_calls.proofs.Refusing.{first_pass, first_here, right_size}
+use Rattle.vault_calls.proofs.Refusing.{first_pass, first_here}
 
 -- the node of a word of the message is a data node
 pub data_node : (x P k : ℕ) → 0 < P → x < k * P → x / P < k
@@ -65,6 +63,13 @@ buffer_more xs k w f l before is j lj = go (cases_eq j k)
     go (inl e) = ap (λ x. get_or (set xs k w) x 0) e ∙ get_or-set_same xs k w 0 l ∙ is ∙ ap f (sym e)
     go (inr ne) = get_or-set_other xs k j w 0 ne ∙ before j (omega arith)
 
+-- the node of a word of the message exists
+pub word_within : (q t nodes start len k P : ℕ) → nodes ≡ q * t → start + len ≤ q * (t - 1) * q ^ t → 0 < q ^ t → k < len → P ≡ q ^ t → (start + k) / P < nodes
+word_within q t nodes start len k P sized inside pos lk is =
+    let a = among_all q t ((start + k) / q ^ t) (data_node (start + k) (q ^ t) (q * (t - 1)) pos (omega arith)) in
+    let b : (start + k) / P ≡ (start + k) / q ^ t = ap (λ x. (start + k) / x) is in
+    omega arith
+
 -- a word of the message is there to be got
 module _ (q t start len k P : ℕ) (m0 m : Model) (sized : (m0.nodes ≡ q * t) × (m0.places ≡ q ^ t)) (inside : start + len ≤ q * (t - 1) * q ^ t) (pos : 0 < q ^ t) (lk : k < len)
     (is : P ≡ q ^ t) (so_far : m ≡ read_drawn m0 start P k) (stand : every (λ j. m0.flags ((start + j) / q ^ t)) len ≡ true) where
@@ -73,11 +78,7 @@ module _ (q t start len k P : ℕ) (m0 m : Model) (sized : (m0.nodes ≡ q * t) 
       ap (λ x. x.flags ((start + k) / P)) so_far ∙ ap (λ x. m0.flags ((start + k) / x)) is ∙ every_at (λ j. m0.flags ((start + j) / q ^ t)) len stand k lk
 
   word_node : (start + k) / P < m.nodes
-  word_node =
-      let a = among_all q t ((start + k) / q ^ t) (data_node (start + k) (q ^ t) (q * (t - 1)) pos (omega arith)) in
-      let b : (start + k) / P ≡ (start + k) / q ^ t = ap (λ x. (start + k) / x) is in
-      let c : m.nodes ≡ m0.nodes = ap (λ x. x.nodes) so_far in
-      omega (arith, sized.0)
+  word_node = word_within q t m.nodes start len k P (ap (λ x. x.nodes) so_far ∙ sized.0) inside pos lk is
 
   word_place : (start + k) % P < m.places
   word_place =
@@ -109,25 +110,17 @@ module _ (q t start len : ℕ) (m : Model) where
       ∙ first_here (ltb (q * (t - 1) * q ^ t) (start + len)) NoSuchPlace _ (lt-ltb (q * (t - 1) * q ^ t) (start + len) past)
 
 -- the tests of a read
-module _ (q t start len : ℕ) (m : Model) (sized : wrong_size q t m ≡ false) (inside : start + len ≤ q * (t - 1) * q ^ t) (pos : 0 < q ^ t) where
-  -- whether its nodes stand is what their flags say
-  pub stand_flags : every (λ j. standing m ((start + j) / q ^ t)) len ≡ every (λ j. m.flags ((start + j) / q ^ t)) len
-  stand_flags =
-      every_same (λ j. standing m ((start + j) / q ^ t)) (λ j. m.flags ((start + j) / q ^ t)) len
-      (λ j l.
-      let a = among_all q t ((start + j) / q ^ t) (data_node (start + j) (q ^ t) (q * (t - 1)) pos (omega arith)) in
-      standing_flag m ((start + j) / q ^ t) (omega (arith, (right_size q t m sized).0)))
-
+module _ (q t start len : ℕ) (m : Model) (sized : wrong_size q t m ≡ false) (inside : start + len ≤ q * (t - 1) * q ^ t) where
   passed : read_refusal q t m start len ≡ first (not (every (λ j. m.flags ((start + j) / q ^ t)) len)) NodeOut None
   passed =
       first_pass (wrong_size q t m) Size _ sized
       ∙ first_pass (ltb (q * (t - 1) * q ^ t) (start + len)) NoSuchPlace _ (le-ltb (q * (t - 1) * q ^ t) (start + len) inside)
 
-  pub read_passes : every (λ j. standing m ((start + j) / q ^ t)) len ≡ true → read_refusal q t m start len ≡ None
-  read_passes e = passed ∙ first_pass (not (every (λ j. m.flags ((start + j) / q ^ t)) len)) NodeOut None (ap not (sym stand_flags ∙ e))
+  pub read_passes : every (λ j. m.flags ((start + j) / q ^ t)) len ≡ true → read_refusal q t m start len ≡ None
+  read_passes e = passed ∙ first_pass (not (every (λ j. m.flags ((start + j) / q ^ t)) len)) NodeOut None (ap not e)
 
-  pub read_finds_out : every (λ j. standing m ((start + j) / q ^ t)) len ≡ false → read_refusal q t m start len ≡ Some NodeOut
-  read_finds_out e = passed ∙ first_here (not (every (λ j. m.flags ((start + j) / q ^ t)) len)) NodeOut None (ap not (sym stand_flags ∙ e))
+  pub read_finds_out : every (λ j. m.flags ((start + j) / q ^ t)) len ≡ false → read_refusal q t m start len ≡ Some NodeOut
+  read_finds_out e = passed ∙ first_here (not (every (λ j. m.flags ((start + j) / q ^ t)) len)) NodeOut None (ap not e)
 
 -- what a read leaves of the rack
 pub read_now : (q t start k : ℕ) (m m' : Model) → m' ≡ read_drawn m start (q ^ t) k → Now q t m m.flags m.words (read_meters q t m start k) m'

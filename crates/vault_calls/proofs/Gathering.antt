@@ -2,31 +2,19 @@
 use Rattle.std.proofs.Common.{◌≡◌, ℕ, ◌+◌, ◌*◌, ◌<◌, ◌≤◌, Bool, true, false, cond, ◌&&◌, eqb, ltb, ◌⊎◌, List, length, get_or, set, Err, sym, refl, ap, ◌∙◌, subst, ap₂, inl, inr, arith}
 use Rattle.std.proofs.lemmas.List.{get_or-set_same, get_or-set_other}
 use Rattle.std.proofs.lemmas.Bool.{cases_eq, cases_Bool, cases_lt, eq-eqb, ne_eqb, lt-ltb, le-ltb, cond-true, cond-false, and_left, and_right}
+use Rattle.std.proofs.lemmas.Grind.{common_steps}
+use borrow.Rule.Slice.PartMut.{mid_of, put_mid}
 use Rattle.code.specs.Code.{Words, laid}
+use Rattle.code.proofs.Clearing.{kept_outside}
+use Rattle.code.proofs.Places.{node_within}
 use Rattle.shape.specs.Outages.{count}
 use Rattle.shape.proofs.Counts.{count_more}
 use Rattle.rack.specs.Model.{Model, changed, risen, standing, got}
 use Rattle.rack.specs.Filled.{with_draws}
-use Rattle.rack.proofs.Models.{same_model, changed_same, changed_other, changed_to_same, got_was_err, place_row, place_column, both, place_below}
+use Rattle.rack.proofs.Models.{same_model, changed_same, changed_other, changed_to_same, got_was_err, both}
 use Rattle.refusal.specs.declared.reason.Refusal.{Refusal}
 use Rattle.vault_calls.proofs.Listing.{standing_flag}
 use Rattle.vault_calls.specs.Steps.{drawn_below, Gathered}
-
--- one word set, by node and place
-pub laid_set : (P : ℕ) (ws : List ℕ) (i p v j r : ℕ) → p < P → r < P → i * P + p < length ws
-    → laid P (set ws (i * P + p) v) j r ≡ cond (eqb j i && eqb r p) v (laid P ws j r)
-laid_set P ws i p v j r lp lr room = go (cases_eq j i) (cases_eq r p)
-  where
-    go : (j ≡ i) ⊎ (j ≡ i → ⊥) → (r ≡ p) ⊎ (r ≡ p → ⊥) → laid P (set ws (i * P + p) v) j r ≡ cond (eqb j i && eqb r p) v (laid P ws j r)
-    go (inl a) (inl b) =
-        ap₂ (λ x y. get_or (set ws (i * P + p) v) (x * P + y) 0) a b ∙ get_or-set_same ws (i * P + p) v 0 room
-        ∙ sym (cond-true (eqb j i && eqb r p) v (laid P ws j r) (both (eqb j i) (eqb r p) (eq-eqb j i a) (eq-eqb r p b)))
-    go (inr a) b =
-        get_or-set_other ws (i * P + p) (j * P + r) v 0 (λ e. a (place_row P i p j r lp lr e))
-        ∙ sym (cond-false (eqb j i && eqb r p) v (laid P ws j r) (and_left (eqb j i) (eqb r p) (ne_eqb j i a)))
-    go (inl a) (inr b) =
-        get_or-set_other ws (i * P + p) (j * P + r) v 0 (λ e. b (place_column P i p j r lp lr e))
-        ∙ sym (cond-false (eqb j i && eqb r p) v (laid P ws j r) (and_right (eqb j i) (eqb r p) (ne_eqb r p b)))
 
 -- one number more below a bound
 pub ltb_more : (r p : ℕ) → (r ≡ p → ⊥) → ltb r (p + 1) ≡ ltb r p
@@ -46,43 +34,63 @@ ltb_none r = le-ltb r 0 (omega arith)
 pub gathered_same : (P : ℕ) (g h : ℕ → ℕ → Bool) (words : Words) (before ws : List ℕ) → ((j r : ℕ) → r < P → g j r ≡ h j r) → Gathered P g words before ws → Gathered P h words before ws
 gathered_same P g h words before ws e gathered j r lr = gathered j r lr ∙ ap (λ b. cond b (words j r) (laid P before j r)) (e j r lr)
 
-module _ (P : ℕ) (test : ℕ → Bool) (words : Words) (before : List ℕ) (i : ℕ) where
-  abbrev Upto : ℕ → ℕ → ℕ → Bool
-  Upto p j r = eqb j i && (ltb r p && test r)
+-- the words of a node where the places below p that pass the test were drawn
+module _ (test : ℕ → Bool) (f : ℕ → ℕ) (before : List ℕ) where
+  abbrev pub Taken : ℕ → List ℕ → Type 0
+  Taken p ws = (r : ℕ) → get_or ws r 0 ≡ cond (ltb r p && test r) (f r) (get_or before r 0)
 
-  -- no place of the node yet
-  pub gathered_none : Gathered P (Upto 0) words before before
-  gathered_none j r lr = sym (cond-false (Upto 0 j r) (words j r) (laid P before j r) (and_right (eqb j i) (ltb r 0 && test r) (and_left (ltb r 0) (test r) (ltb_none r))))
+  -- no place yet
+  pub taken_none : Taken 0 before
+  taken_none r = sym (cond-false (ltb r 0 && test r) (f r) (get_or before r 0) (and_left (ltb r 0) (test r) (ltb_none r)))
 
-  module _ (ws : List ℕ) (p : ℕ) (gathered : Gathered P (Upto p) words before ws) where
+  module _ (ws : List ℕ) (p : ℕ) (taken : Taken p ws) where
     -- a place that is passed over
-    pub gathered_skip : test p ≡ false → (ws' : List ℕ) → ws' ≡ ws → Gathered P (Upto (p + 1)) words before ws'
-    gathered_skip off ws' after =
-        subst (λ x. Gathered P (Upto (p + 1)) words before x) (sym after) (gathered_same P (Upto p) (Upto (p + 1)) words before ws (λ j r lr. go j r (cases_eq r p)) gathered)
+    pub taken_skip : test p ≡ false → (ws' : List ℕ) → ws' ≡ ws → Taken (p + 1) ws'
+    taken_skip off ws' after r = ap (λ x. get_or x r 0) after ∙ taken r ∙ ap (λ b. cond b (f r) (get_or before r 0)) (go (cases_eq r p))
       where
-        go : (j r : ℕ) → (r ≡ p) ⊎ (r ≡ p → ⊥) → Upto p j r ≡ Upto (p + 1) j r
-        go j r (inl e) =
-            let down : test r ≡ false = ap test e ∙ off in
-            ap (λ b. eqb j i && b) (and_right (ltb r p) (test r) down ∙ sym (and_right (ltb r (p + 1)) (test r) down))
-        go j r (inr ne) = ap (λ b. eqb j i && (b && test r)) (sym (ltb_more r p ne))
+        go : (r ≡ p) ⊎ (r ≡ p → ⊥) → (ltb r p && test r) ≡ (ltb r (p + 1) && test r)
+        go (inl e) = let down : test r ≡ false = ap test e ∙ off in and_right (ltb r p) (test r) down ∙ sym (and_right (ltb r (p + 1)) (test r) down)
+        go (inr ne) = ap (λ b. b && test r) (sym (ltb_more r p ne))
 
     -- a place that is drawn
-    pub gathered_more : (w : ℕ) → p < P → i * P + p < length ws → test p ≡ true → w ≡ words i p
-        → (ws' : List ℕ) → ws' ≡ set ws (i * P + p) w → Gathered P (Upto (p + 1)) words before ws'
-    gathered_more w lp room on is ws' after j r lr = ap (λ x. laid P x j r) after ∙ laid_set P ws i p w j r lp lr room ∙ go (cases_eq j i) (cases_eq r p)
+    pub taken_more : (w : ℕ) → p < length ws → test p ≡ true → w ≡ f p → (ws' : List ℕ) → ws' ≡ set ws p w → Taken (p + 1) ws'
+    taken_more w room on is ws' after r = ap (λ x. get_or x r 0) after ∙ go (cases_eq r p)
       where
-        go : (j ≡ i) ⊎ (j ≡ i → ⊥) → (r ≡ p) ⊎ (r ≡ p → ⊥) → cond (eqb j i && eqb r p) w (laid P ws j r) ≡ cond (Upto (p + 1) j r) (words j r) (laid P before j r)
-        go (inl a) (inl b) =
-            cond-true (eqb j i && eqb r p) w (laid P ws j r) (both (eqb j i) (eqb r p) (eq-eqb j i a) (eq-eqb r p b))
-            ∙ is ∙ sym (ap₂ words a b)
-            ∙ sym (cond-true (Upto (p + 1) j r) (words j r) (laid P before j r)
-            (both (eqb j i) (ltb r (p + 1) && test r) (eq-eqb j i a) (both (ltb r (p + 1)) (test r) (ap (λ x. ltb x (p + 1)) b ∙ ltb_last p) (ap test b ∙ on))))
-        go (inr a) b =
-            cond-false (eqb j i && eqb r p) w (laid P ws j r) (and_left (eqb j i) (eqb r p) (ne_eqb j i a)) ∙ gathered j r lr
-            ∙ ap (λ x. cond x (words j r) (laid P before j r)) (and_left (eqb j i) (ltb r p && test r) (ne_eqb j i a) ∙ sym (and_left (eqb j i) (ltb r (p + 1) && test r) (ne_eqb j i a)))
-        go (inl a) (inr b) =
-            cond-false (eqb j i && eqb r p) w (laid P ws j r) (and_right (eqb j i) (eqb r p) (ne_eqb r p b)) ∙ gathered j r lr
-            ∙ ap (λ x. cond (eqb j i && (x && test r)) (words j r) (laid P before j r)) (sym (ltb_more r p b))
+        go : (r ≡ p) ⊎ (r ≡ p → ⊥) → get_or (set ws p w) r 0 ≡ cond (ltb r (p + 1) && test r) (f r) (get_or before r 0)
+        go (inl e) =
+            ap (λ k. get_or (set ws p w) k 0) e ∙ get_or-set_same ws p w 0 room ∙ is ∙ ap f (sym e)
+            ∙ sym (cond-true (ltb r (p + 1) && test r) (f r) (get_or before r 0) (both (ltb r (p + 1)) (test r) (ap (λ x. ltb x (p + 1)) e ∙ ltb_last p) (ap test e ∙ on)))
+        go (inr ne) = get_or-set_other ws p r w 0 ne ∙ taken r ∙ ap (λ b. cond (b && test r) (f r) (get_or before r 0)) (sym (ltb_more r p ne))
+
+  -- all places
+  pub taken_all : (ws : List ℕ) (p r : ℕ) → Taken p ws → r < p → get_or ws r 0 ≡ cond (test r) (f r) (get_or before r 0)
+  taken_all ws p r taken lr = taken r ∙ ap (λ b. cond (b && test r) (f r) (get_or before r 0)) (lt-ltb r p lr)
+
+-- a part of a list and what is put in its place
+pub put_inside : (ws us : List ℕ) (a k p : ℕ) → a + k ≤ length ws → length us ≡ k → p < k → get_or (put_mid a k ws us) (a + p) 0 ≡ get_or us p 0
+put_inside ws us a k p room long lp = grind (arith, common_steps)
+
+pub mid_inside : (ws : List ℕ) (a k p : ℕ) → p < k → get_or (mid_of a k ws) p 0 ≡ get_or ws (a + p) 0
+mid_inside ws a k p lp = grind (arith, common_steps)
+
+-- the space with the words of a node, k from a on, put back
+module _ (P i a k : ℕ) (test : ℕ → Bool) (words : Words) (before us : List ℕ) (at : a ≡ i * P) (wide : k ≡ P) (room : a + k ≤ length before) (long : length us ≡ k) where
+  pub gathered_node : ((p : ℕ) → p < P → get_or us p 0 ≡ cond (test p) (words i p) (get_or (mid_of a k before) p 0)) → Gathered P (λ j p. eqb j i && test p) words before (put_mid a k before us)
+  gathered_node taken j p lp = go (cases_eq j i)
+    where
+      go : (j ≡ i) ⊎ (j ≡ i → ⊥) → laid P (put_mid a k before us) j p ≡ cond (eqb j i && test p) (words j p) (laid P before j p)
+      go (inl e) =
+          let here : j * P + p ≡ a + p = omega (arith, ap (λ x. x * P) e) in
+          ap (λ x. get_or (put_mid a k before us) x 0) here ∙ put_inside before us a k p room long (omega arith) ∙ taken p lp
+          ∙ ap (λ x. cond (test p) (words i p) x) (mid_inside before a k p (omega arith) ∙ ap (λ x. get_or before x 0) (sym here))
+          ∙ ap₂ (λ b x. cond (b && test p) (words x p) (laid P before j p)) (sym (eq-eqb j i e)) (sym e)
+      go (inr ne) =
+          kept_outside before us a k (j * P + p) room long (apart (cases_lt j i))
+          ∙ sym (cond-false (eqb j i && test p) (words j p) (laid P before j p) (and_left (eqb j i) (test p) (ne_eqb j i ne)))
+        where
+          apart : (j < i) ⊎ (i ≤ j) → (j * P + p < a) ⊎ (a + k ≤ j * P + p)
+          apart (inl l) = inl (let w = node_within i P j l in omega arith)
+          apart (inr l) = inr (let w = node_within j P i (omega arith) in omega arith)
 
 -- as many draws of a node as places below p pass the test
 module _ (m : Model) (i : ℕ) (test : ℕ → Bool) where
@@ -96,21 +104,10 @@ module _ (m : Model) (i : ℕ) (test : ℕ → Bool) where
   pub drawn_step : (p : ℕ) → test p ≡ true → with_draws m i (count test p + 1) ≡ with_draws m i (count test (p + 1))
   drawn_step p on = ap (with_draws m i) (sym (count_more test p ∙ ap (λ b. count test p + cond b 1 0) on))
 
--- all places of the node
-pub gathered_all : (P n : ℕ) (test : ℕ → Bool) (words : Words) (before ws : List ℕ) (i p : ℕ) → P ≡ n → p ≡ n
-    → Gathered P (λ j r. eqb j i && (ltb r p && test r)) words before ws → Gathered n (λ j r. eqb j i && test r) words before ws
-gathered_all P n test words before ws i p all end gathered =
-    subst (λ x. Gathered x (λ j r. eqb j i && test r) words before ws) all
-    (gathered_same P (λ j r. eqb j i && (ltb r p && test r)) (λ j r. eqb j i && test r) words before ws (λ j r lr. ap (λ b. eqb j i && (b && test r)) (lt-ltb r p (omega arith))) gathered)
-
 -- while a standing node is drawn, no place of it is refused
 pub draw_not_refused : (m0 m : Model) (i p k : ℕ) (e : Refusal) → m ≡ with_draws m0 i k → i < m0.nodes → p < m0.places → m0.flags i ≡ true → Err e ≡ got m i p → ⊥
 draw_not_refused m0 m i p k e so_far li lp up was =
     got_was_err m i p e was (omega (arith, ap (λ x. x.nodes) so_far)) (omega (arith, ap (λ x. x.places) so_far)) (ap (λ x. x.flags i) so_far ∙ up)
-
--- a place of a node lies inside a long enough space
-pub spot_room : (n P i p len : ℕ) → i < n → p < P → n * P ≤ len → i * P + p < len
-spot_room n P i p len li lp l = let b = place_below P n i p li lp in omega arith
 
 module _ (m0 m : Model) (n k : ℕ) (so_far : m ≡ drawn_below m0 n k) where
   -- a node that is out

@@ -3,6 +3,8 @@ pub mod Refusing
 pub mod Tallies
 pub mod Invariant
 pub mod Promises
+pub mod Promised
+pub mod Lending
 pub mod Listing
 pub mod Gathering
 pub mod Scattering

@@ -11,9 +11,8 @@ use Rattle.rack.specs.Model.{Model, risen, standing as stands_in}
 use Rattle.rack.proofs.Models.{both}
 use Rattle.refusal.specs.declared.reason.Refusal.{Refusal}
 use Rattle.refusal.specs.declared.reason.Refusal.TheVariants.{Size, WorkSpace, TooManyOut, BadWord, NoCodeword}
-use Rattle.vault_calls.specs.declared.selection.Selection.TheVariants.{All}
 use Rattle.vault_calls.specs.Calls.{wrong_size, short, out_count, Now, recover_refusal, recover_meters, Unrecovered, drew}
-use Rattle.vault_calls.specs.Steps.{takes, drawn_below, written_below, Gathered}
+use Rattle.vault_calls.specs.Steps.{drawn_below, written_below, Gathered}
 use Rattle.vault_calls.proofs.Carrying.{only_too, good_too, agrees_back}
 use Rattle.vault_calls.proofs.Listing.{standing_flag}
 use Rattle.vault_calls.proofs.Refusing.{right_size, sized, first_pass, first_here}
@@ -40,8 +39,8 @@ module _ (q t : ℕ) (m : Model) (nodes : List ℕ) (size : wrong_size q t m ≡
   stand_same i l = ap not (among_out i l) ∙ twice (m.flags i)
 
 module _ {E : Type 0} (f : Arith E) (q t : ℕ) (m m1 : Model) (nodes s0 s1 : List ℕ) (size : wrong_size q t m ≡ false) (list : nodes ≡ listed (λ i. not (stands_in m i)) (q * t))
-    (all_drawn : m1 ≡ drawn_below m (q * t) (count (takes q All) (q ^ t)))
-    (gathered : Gathered (q ^ t) (λ j p. (ltb j (q * t) && m.flags j) && takes q All p) m.words s0 s1) where
+    (all_drawn : m1 ≡ drawn_below m (q * t) (count (λ p. true) (q ^ t)))
+    (gathered : Gathered (q ^ t) (λ j p. (ltb j (q * t) && m.flags j) && true) m.words s0 s1) where
   words_same : (i p : ℕ) → i < q * t → p < q ^ t → m.flags i ≡ true → laid (q ^ t) s1 i p ≡ m.words i p
   words_same i p li lp up =
       gathered i p lp
@@ -51,7 +50,7 @@ module _ {E : Type 0} (f : Arith E) (q t : ℕ) (m m1 : Model) (nodes s0 s1 : Li
   meters_drawn : (i : ℕ) → i < q * t → m1.meters i ≡ recover_meters f q t m i
   meters_drawn i l =
       ap (λ x. x.meters i) all_drawn
-      ∙ ap₂ (λ b k. cond (b && m.flags i) (risen (m.meters i) k) (m.meters i)) (lt-ltb i (q * t) l) (count_all (takes q All) (q ^ t) (λ p lp. refl))
+      ∙ ap₂ (λ b k. cond (b && m.flags i) (risen (m.meters i) k) (m.meters i)) (lt-ltb i (q * t) l) (count_all (λ p. true) (q ^ t) (λ p lp. refl))
 
   -- everything was drawn, and nothing written
   pub drawn_now : Now q t m m.flags m.words (recover_meters f q t m) m1

@@ -1,5 +1,5 @@
 -- The first refusal that applies. Assumes nothing.
-use Rattle.std.proofs.Common.{◌≡◌, ℕ, ◌*◌, ◌^◌, Bool, true, false, not, ◌&&◌, eqb, Some, None, Ok, Err, Option, Result, refl, ap, ap₂, arith}
+use Rattle.std.proofs.Common.{◌≡◌, ℕ, ◌*◌, ◌^◌, Bool, true, false, not, ◌&&◌, eqb, Some, None, Option, refl, ap, ap₂, arith}
 use Rattle.std.proofs.lemmas.Bool.{and_parts, eqb-true, eq-eqb, not-false}
 use Rattle.refusal.specs.First.{first}
 use Rattle.refusal.specs.declared.reason.Refusal.{Refusal}
@@ -18,10 +18,6 @@ first_pass b e rest p = ap (λ x. first x e rest) p
 -- one that applies decides
 pub first_here : (b : Bool) (e : Refusal) (rest : Option Refusal) → b ≡ true → first b e rest ≡ Some e
 first_here b e rest p = ap (λ x. first x e rest) p
-
--- a call that was accepted was not refused
-pub ok_not_err : {X : Type 0} (r : Result X Refusal) (x : X) (e : Refusal) → r ≡ Ok x → r ≡ Err e → ⊥
-ok_not_err r x e a b = let z : ◌≡◌ {A = ℕ} 0 1 = cc in omega arith
 
 module _ (q t : ℕ) (m : Model) where
   -- the counts are the shape's

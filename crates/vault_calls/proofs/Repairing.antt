@@ -16,9 +16,8 @@ use Rattle.rack.proofs.Models.{changed_same, changed_other, both}
 use Rattle.refusal.specs.First.{first}
 use Rattle.refusal.specs.declared.reason.Refusal.{Refusal}
 use Rattle.refusal.specs.declared.reason.Refusal.TheVariants.{Size, WorkSpace, NoSuchPlace, NodeStands, AnotherOut, BadWord}
-use Rattle.vault_calls.specs.declared.selection.Selection.TheVariants.{Helping}
 use Rattle.vault_calls.specs.Calls.{wrong_size, short, out_count, Now, repair_refusal, repair_meters}
-use Rattle.vault_calls.specs.Steps.{takes, drawn_below, Gathered}
+use Rattle.vault_calls.specs.Steps.{drawn_below, Gathered}
 use Rattle.vault_calls.proofs.HelperPlaces.{helpers_count}
 use Rattle.vault_calls.proofs.Listing.{standing_flag}
 use Rattle.vault_calls.proofs.Refusing.{first_none, first_pass, first_here, right_size}
@@ -99,8 +98,8 @@ module _ {E : Type 0} (f : Arith E) (q t i : ℕ) (ws : List ℕ) (room : q * t 
 
 module _ {E : Type 0} (f : Arith E) (q t : ℕ) (s : Shaped q t) (lost : ℕ) (within : lost < q * t) (m m1 : Model) (s0 s1 : List ℕ)
     (size : wrong_size q t m ≡ false) (out : m.flags lost ≡ false) (few : out_count q t m ≤ 1)
-    (all_drawn : m1 ≡ drawn_below m (q * t) (count (takes q (Helping lost)) (q ^ t)))
-    (gathered : Gathered (q ^ t) (λ j p. (ltb j (q * t) && m.flags j) && takes q (Helping lost) p) m.words s0 s1) where
+    (all_drawn : m1 ≡ drawn_below m (q * t) (count (helps q lost) (q ^ t)))
+    (gathered : Gathered (q ^ t) (λ j p. (ltb j (q * t) && m.flags j) && helps q lost p) m.words s0 s1) where
   -- the helper words are in the space
   helper_words : (j p : ℕ) → j < q * t → p < q ^ t → helps q lost p ≡ true → (j ≡ lost → ⊥) → laid (q ^ t) s1 j p ≡ m.words j p
   helper_words j p lj lp h ne =
@@ -108,9 +107,9 @@ module _ {E : Type 0} (f : Arith E) (q t : ℕ) (s : Shaped q t) (lost : ℕ) (w
       ∙ cond-true ((ltb j (q * t) && m.flags j) && helps q lost p) (m.words j p) (laid (q ^ t) s0 j p)
       (both (ltb j (q * t) && m.flags j) (helps q lost p) (both (ltb j (q * t)) (m.flags j) (lt-ltb j (q * t) lj) (others_stand q t m lost within out few j lj ne)) h)
 
-  drawn_times : count (takes q (Helping lost)) (q ^ t) ≡ q ^ (t - 1)
+  drawn_times : count (helps q lost) (q ^ t) ≡ q ^ (t - 1)
   drawn_times =
-      count_same (takes q (Helping lost)) (helps q lost) (q ^ t) (λ p lp. refl)
+      count_same (helps q lost) (helps q lost) (q ^ t) (λ p lp. refl)
       ∙ helpers_count q t lost (rows_positive s) (row_bound q (rows_positive s) lost) (column_bound q (rows_positive s) lost t within)
 
   meters_drawn : (j : ℕ) → j < q * t → m1.meters j ≡ repair_meters f q t m lost j

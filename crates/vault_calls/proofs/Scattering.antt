@@ -1,13 +1,13 @@
 -- Words written from the space into the rack. Assumes nothing.
-use Rattle.std.proofs.Common.{◌≡◌, ℕ, ◌+◌, ◌*◌, ◌<◌, ◌≤◌, Bool, true, false, cond, ◌&&◌, ltb, ◌⊎◌, List, length, Ok, sym, refl, ap, ◌∙◌, inl, inr, mul-le-mul_right, add-mul, one-mul, arith}
+use Rattle.std.proofs.Common.{◌≡◌, ℕ, ◌+◌, ◌*◌, ◌<◌, ◌≤◌, Bool, true, false, cond, ◌&&◌, ltb, ◌⊎◌, List, length, sym, refl, ap, ◌∙◌, inl, inr, mul-le-mul_right, add-mul, one-mul, arith}
 use Rattle.std.specs.List.{between}
 use Rattle.std.proofs.lemmas.List.Edits.{length-between, get_or-between}
 use Rattle.std.proofs.lemmas.Bool.{cases_eq, le-ltb, cond-true, cond-false, and_left, and_right}
 use Rattle.code.specs.Code.{Words, laid}
-use Rattle.rack.specs.Model.{Model, changed, done}
-use Rattle.rack.specs.Filled.{filled, sized, after_fill}
+use Rattle.rack.specs.Model.{Model, changed}
+use Rattle.rack.specs.Filled.{filled, after_fill}
 use Rattle.rack.proofs.Models.{same_model, changed_same, changed_other, both}
-use Rattle.rack.proofs.Ends.{is_sized, filled_by}
+use Rattle.rack.proofs.Ends.{filled_by}
 use Rattle.vault_calls.specs.Steps.{written_below}
 use Rattle.vault_calls.proofs.Gathering.{ltb_none, ltb_more, ltb_last}
 
@@ -19,9 +19,6 @@ row_room n P i len li l = let next : i + 1 ≤ n = omega arith in omega (arith, 
 module _ (m : Model) (P i : ℕ) (s : List ℕ) (room : i * P + P ≤ length s) (within : i < m.nodes) (is : m.places ≡ P) where
   long : length (between (i * P) (i * P + P) s) ≡ m.places
   long = length-between s (i * P) (i * P + P) room ∙ omega arith
-
-  pub row_fits : done (sized m i (length (between (i * P) (i * P + P) s))) ≡ Ok tt
-  row_fits = ap done (is_sized m i (length (between (i * P) (i * P + P) s)) within long)
 
   pub row_filled : after_fill m i (between (i * P) (i * P + P) s) ≡ filled m i (laid P s i)
   row_filled = filled_by m i (between (i * P) (i * P + P) s) (laid P s i) within long (λ p lp. get_or-between s (i * P) (i * P + P) p 0 (omega arith))

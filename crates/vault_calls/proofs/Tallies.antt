@@ -1,5 +1,5 @@
 -- Counts of tests. Assumes nothing.
-use Rattle.std.proofs.Common.{◌≡◌, ℕ, zero, suc, ◌+◌, ◌*◌, ◌<◌, ◌≤◌, Bool, true, false, cond, not, ◌||◌, ◌⊎◌, sym, ap, ◌∙◌, inl, inr, arith}
+use Rattle.std.proofs.Common.{◌≡◌, ℕ, zero, suc, ◌+◌, ◌*◌, ◌<◌, ◌≤◌, Bool, true, false, cond, not, ◌||◌, ◌⊎◌, sym, ap, ◌∙◌, inl, inr, mul-le-mul, arith, Fits, w64}
 use Rattle.std.proofs.lemmas.Bool.{cases_eq, cases_Bool, cond-true}
 use Rattle.shape.specs.Outages.{count}
 use Rattle.rack.specs.Model.{Model}
@@ -54,3 +54,7 @@ others_stand q t m i li out few j lj ne = go (cases_Bool (m.flags j))
     go (inr e) =
         let c = count_two (λ n. not (m.flags n)) (q * t) j i lj li ne (ap not e) (ap not out) in
         absurd (omega arith)
+
+-- as many words as this have a small count
+pub small_product : (a b : ℕ) → a ≤ 16 → b ≤ 256 → Fits w64 (a * b)
+small_product a b la lb = let p = mul-le-mul la lb in omega arith

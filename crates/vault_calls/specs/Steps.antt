@@ -1,16 +1,16 @@
 -- What the steps of the calls leave: in the rack, and in a work space that holds the words of all nodes in a row. Assumes nothing.
+use Rattle.std.specs.Borrow.{MutBor}
 use Rattle.std.specs.Prelude.{◌≡◌, ℕ, ◌+◌, ◌/◌, ◌<◌, Bool, true, cond, ◌&&◌, List, nat_eq, nat_lt}
-use Rattle.code.specs.Code.{Words, laid, helps}
+use Rattle.code.specs.Code.{Words, laid}
 use Rattle.shape.specs.Outages.{count}
 use Rattle.rack.specs.Filled.{filled, with_draws}
 use Rattle.rack.specs.Model.{Model, risen}
-use Rattle.vault_calls.specs.declared.selection.Selection.{Selection}
-use Rattle.vault_calls.specs.declared.selection.Selection.TheVariants.{All, Helping}
+use Rattle.shape.specs.declared.dimensions.Shape.{Shape}
 
--- the places that a selection takes
-abbrev pub takes : ℕ → Selection → ℕ → Bool
-takes q All p = true
-takes q (Helping i) p = helps q i p
+-- at each place a test may be called, and decides as `takes` says
+pub record Decides (pre : ℕ → Type 0) (post : ℕ → Bool → Type 0) (places : ℕ) (takes : ℕ → Bool) : Type 0 where
+  pub callable : (p : ℕ) → p < places → pre p
+  pub told : (p : ℕ) (b : Bool) → p < places → post p b → b ≡ takes p
 
 -- node i was drawn from k times
 abbrev pub drawn : Model → ℕ → ℕ → Model
@@ -41,3 +41,9 @@ written_below m test w n = record {
 -- the space holds these words where the test holds, and otherwise what it held
 abbrev pub Gathered : ℕ → (ℕ → ℕ → Bool) → Words → List ℕ → List ℕ → Type 0
 Gathered places test words before after = (j p : ℕ) → p < places → laid places after j p ≡ cond (test j p) (words j p) (laid places before j p)
+
+-- a shape and the rack that is lent beside it, at a later time: the same shape, and the same rack, kept as racks are
+pub record StaysLent {S : Type 0} (kept : S → S → Type 0) (s : Shape) (r : MutBor S) (s' : Shape) (r' : MutBor S) : Type 0 where
+  pub same_shape : s' ≡ s
+  pub same_rack : r'.ghost_name ≡ r.ghost_name
+  pub stays : kept r.now r'.now

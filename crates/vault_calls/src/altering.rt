@@ -30,8 +30,5 @@ pub fn alter<F: Field, R: Rack>(
         return Err(Refusal::NodeOut);
     }
     rack.put(node, place, word)?;
-    Ok(Answer {
-        filled: 0,
-        drawn: 0,
-    })
+    Ok(Answer::default())
 }

@@ -4,15 +4,13 @@ ghost use Rattle.vault_calls.specs.Calls.{Space, Store, Repair, Recover};
 ghost use Rattle.vault_calls.specs.History.{RecoverPromise, RepairPromise};
 
 use crate::answer::Answer;
-use crate::drawing::draw;
-use crate::selection::Selection;
-use crate::sizes::{all_nodes, fits, outages, roomy};
-use crate::writing::{write_listed, write_node};
+use crate::fitted::Fitted;
+use crate::sizes::{fits, outages, roomy};
 use code::{encode, rebuild, restore};
 use field::Field;
 use rack::Rack;
 use refusal::Refusal;
-use shape::Shape;
+use shape::{OutageList, Shape};
 
 // Writes the codeword that carries the message, and raises every node.
 pub fn store<F: Field, R: Rack>(
@@ -27,41 +25,11 @@ pub fn store<F: Field, R: Rack>(
 {
     fits(shape, rack)?;
     encode::<F>(shape, message, space)?;
-    write_listed(shape, rack, &all_nodes(shape), space)?;
+    let mut fitted = Fitted { shape, rack };
+    fitted.write_listed(&OutageList::filtered(shape, |_| true), space)?;
     Ok(Answer {
         filled: shape.nodes(),
         drawn: 0,
-    })
-}
-
-// The steps of `repair`.
-fn repair_node<F: Field, R: Rack>(
-    shape: Shape,
-    rack: &mut R,
-    node: usize,
-    space: &mut [u16],
-) -> Result<Answer, Refusal>
-    ensures call { Repair F.arith shape.q shape.t (R.model rack.old) node (length space.old) result (R.model rack.new) }
-    ensures space { Space (shape.q * shape.t * shape.q ^ shape.t) result space.old space.new }
-    ensures stays { R.kept rack.old rack.new }
-{
-    fits(shape, rack)?;
-    roomy(shape, space)?;
-    if node >= shape.nodes() {
-        return Err(Refusal::NoSuchPlace);
-    }
-    if rack.stands(node) {
-        return Err(Refusal::NodeStands);
-    }
-    if outages(shape, rack).len() > 1 {
-        return Err(Refusal::AnotherOut);
-    }
-    draw(shape, rack, Selection::Helping(node), space)?;
-    rebuild::<F>(shape, node, space)?;
-    write_node(shape, rack, node, space)?;
-    Ok(Answer {
-        filled: 1,
-        drawn: (shape.nodes() - 1) * shape.helper_places(),
     })
 }
 
@@ -77,31 +45,24 @@ pub fn repair<F: Field, R: Rack>(
     ensures space { Space (shape.q * shape.t * shape.q ^ shape.t) result space.old space.new }
     ensures stays { R.kept rack.old rack.new }
 {
-    repair_node::<F, R>(shape, rack, node, space)
-}
-
-// The steps of `recover`.
-fn recover_nodes<F: Field, R: Rack>(
-    shape: Shape,
-    rack: &mut R,
-    space: &mut [u16],
-) -> Result<Answer, Refusal>
-    ensures call { Recover F.arith shape.q shape.t (R.model rack.old) (length space.old) result (R.model rack.new) }
-    ensures space { Space (shape.q * shape.t * shape.q ^ shape.t) result space.old space.new }
-    ensures stays { R.kept rack.old rack.new }
-{
     fits(shape, rack)?;
     roomy(shape, space)?;
-    let out = outages(shape, rack);
-    if out.len() > shape.rows() {
-        return Err(Refusal::TooManyOut);
+    if node >= shape.nodes() {
+        return Err(Refusal::NoSuchPlace);
     }
-    draw(shape, rack, Selection::All, space)?;
-    restore::<F>(shape, &out, space)?;
-    write_listed(shape, rack, &out, space)?;
+    if rack.stands(node) {
+        return Err(Refusal::NodeStands);
+    }
+    if outages(shape, rack).len() > 1 {
+        return Err(Refusal::AnotherOut);
+    }
+    let mut fitted = Fitted { shape, rack };
+    fitted.draw(&|place| shape.helps(node, place), space)?;
+    rebuild::<F>(shape, node, space)?;
+    fitted.write_node(node, space)?;
     Ok(Answer {
-        filled: out.len(),
-        drawn: (shape.nodes() - out.len()) * shape.places(),
+        filled: 1,
+        drawn: (shape.nodes() - 1) * shape.helper_places(),
     })
 }
 
@@ -116,5 +77,19 @@ pub fn recover<F: Field, R: Rack>(
     ensures space { Space (shape.q * shape.t * shape.q ^ shape.t) result space.old space.new }
     ensures stays { R.kept rack.old rack.new }
 {
-    recover_nodes::<F, R>(shape, rack, space)
+    fits(shape, rack)?;
+    roomy(shape, space)?;
+    let out = outages(shape, rack);
+    let lost = out.len();
+    if lost > shape.rows() {
+        return Err(Refusal::TooManyOut);
+    }
+    let mut fitted = Fitted { shape, rack };
+    fitted.draw(&|_| true, space)?;
+    restore::<F>(shape, &out, space)?;
+    fitted.write_listed(&out, space)?;
+    Ok(Answer {
+        filled: lost,
+        drawn: (shape.nodes() - lost) * shape.places(),
+    })
 }

@@ -1,77 +1,57 @@
 // Words are drawn from the standing nodes into the work space.
-ghost use Rattle.std.specs.Prelude.{◌≡◌, ◌*◌, ◌^◌, ◌<◌, ◌≤◌, true, false, ◌&&◌, length, Ok, ◌==◌, nat_lt};
-ghost use Rattle.code.specs.Code.{helps};
+ghost use Rattle.std.specs.Prelude.{◌≡◌, ℕ, ◌*◌, ◌^◌, ◌<◌, ◌≤◌, Bool, true, cond, ◌&&◌, length, Ok, nat_lt, slice_index};
 ghost use Rattle.shape.specs.Outages.{count};
-ghost use Rattle.vault_calls.specs.Calls.{wrong_size};
-ghost use Rattle.vault_calls.specs.Steps.{takes, drawn, drawn_below, Gathered};
+ghost use Rattle.vault_calls.specs.Steps.{drawn, drawn_below, Gathered, StaysLent, Decides};
 
-use crate::selection::Selection;
+use crate::fitted::Fitted;
 use rack::Rack;
 use refusal::Refusal;
-use shape::Shape;
 
-// Whether a place helps to repair a node: its digit in the node's column is the node's row.
-fn place_helps(shape: Shape, node: usize, place: usize) -> bool
-    ensures { result ≡ helps shape.q node place }
-{
-    shape.digit(place, shape.column(node)) == shape.row(node)
-}
-
-// Whether a place is drawn.
-fn selected(shape: Shape, selection: Selection, place: usize) -> bool
-    ensures { result ≡ takes shape.q selection place }
-{
-    match selection {
-        Selection::All => true,
-        Selection::Helping(node) => place_helps(shape, node, place),
-    }
-}
-
-// Draws the selected places of one standing node into the work space.
-fn draw_node<R: Rack>(
-    shape: Shape,
-    rack: &mut R,
-    node: usize,
-    selection: Selection,
-    space: &mut [u16],
-) -> Result<(), Refusal>
-    requires sized { wrong_size shape.q shape.t (R.model rack.old) ≡ false }
-    requires node { node < shape.q * shape.t }
-    requires stands { (R.model rack.old).flags node ≡ true }
-    requires room { shape.q * shape.t * shape.q ^ shape.t ≤ length space.old }
-    ensures accepted { result ≡ Ok tt }
-    ensures after { R.model rack.new ≡ drawn (R.model rack.old) node (count (takes shape.q selection) (shape.q ^ shape.t)) }
-    ensures space { Gathered (shape.q ^ shape.t) (λ j p. (j == node) && takes shape.q selection p) (R.model rack.old).words space.old space.new }
-    ensures stays { R.kept rack.old rack.new }
-{
-    let places = shape.places();
-    for p in 0..places {
-        if selected(shape, selection, p) {
-            let word = rack.get(node, p)?;
-            space[node * places + p] = word;
+impl<'a, R: Rack> Fitted<'a, R> {
+    // Draws the selected places of one standing node, each into its word.
+    fn draw_node<P: Fn(usize) -> bool>(
+        &mut self,
+        node: usize,
+        selects: &P,
+        words: &mut [u16],
+    ) -> Result<(), Refusal>
+        requires node { node < self.old.shape.q * self.old.shape.t }
+        requires stands { (R.model self.old.rack.now).flags node ≡ true }
+        requires selects { (takes : ℕ → Bool) × Decides (P.pre selects.now) (P.post selects.now) (self.old.shape.q ^ self.old.shape.t) takes }
+        requires long { length words.old ≡ self.old.shape.q ^ self.old.shape.t }
+        ensures accepted { result ≡ Ok tt }
+        ensures after { (takes : ℕ → Bool) → Decides (P.pre selects.now) (P.post selects.now) (self.old.shape.q ^ self.old.shape.t) takes → R.model self.new.rack.now ≡ drawn (R.model self.old.rack.now) node (count takes (self.old.shape.q ^ self.old.shape.t)) }
+        ensures words { (takes : ℕ → Bool) → Decides (P.pre selects.now) (P.post selects.now) (self.old.shape.q ^ self.old.shape.t) takes → (p : ℕ) → p < self.old.shape.q ^ self.old.shape.t → slice_index words.new p ≡ cond (takes p) ((R.model self.old.rack.now).words node p) (slice_index words.old p) }
+        ensures stays { StaysLent R.kept self.old.shape self.old.rack self.new.shape self.new.rack }
+    {
+        for (place, word) in words.iter_mut().enumerate() {
+            if selects(place) {
+                *word = self.rack.get(node, place)?;
+            }
         }
+        Ok(())
     }
-    Ok(())
-}
 
-// Draws the selected places of every standing node into the work space.
-pub fn draw<R: Rack>(
-    shape: Shape,
-    rack: &mut R,
-    selection: Selection,
-    space: &mut [u16],
-) -> Result<(), Refusal>
-    requires sized { wrong_size shape.q shape.t (R.model rack.old) ≡ false }
-    requires room { shape.q * shape.t * shape.q ^ shape.t ≤ length space.old }
-    ensures accepted { result ≡ Ok tt }
-    ensures after { R.model rack.new ≡ drawn_below (R.model rack.old) (shape.q * shape.t) (count (takes shape.q selection) (shape.q ^ shape.t)) }
-    ensures space { Gathered (shape.q ^ shape.t) (λ j p. (nat_lt j (shape.q * shape.t) && (R.model rack.old).flags j) && takes shape.q selection p) (R.model rack.old).words space.old space.new }
-    ensures stays { R.kept rack.old rack.new }
-{
-    for i in 0..shape.nodes() {
-        if rack.stands(i) {
-            draw_node(shape, rack, i, selection, space)?;
+    // Draws the selected places of every standing node into the work space.
+    pub fn draw<P: Fn(usize) -> bool>(
+        &mut self,
+        selects: &P,
+        space: &mut [u16],
+    ) -> Result<(), Refusal>
+        requires selects { (takes : ℕ → Bool) × Decides (P.pre selects.now) (P.post selects.now) (self.old.shape.q ^ self.old.shape.t) takes }
+        requires room { self.old.shape.q * self.old.shape.t * self.old.shape.q ^ self.old.shape.t ≤ length space.old }
+        ensures accepted { result ≡ Ok tt }
+        ensures after { (takes : ℕ → Bool) → Decides (P.pre selects.now) (P.post selects.now) (self.old.shape.q ^ self.old.shape.t) takes → R.model self.new.rack.now ≡ drawn_below (R.model self.old.rack.now) (self.old.shape.q * self.old.shape.t) (count takes (self.old.shape.q ^ self.old.shape.t)) }
+        ensures space { (takes : ℕ → Bool) → Decides (P.pre selects.now) (P.post selects.now) (self.old.shape.q ^ self.old.shape.t) takes → Gathered (self.old.shape.q ^ self.old.shape.t) (λ j p. (nat_lt j (self.old.shape.q * self.old.shape.t) && (R.model self.old.rack.now).flags j) && takes p) (R.model self.old.rack.now).words space.old space.new }
+        ensures stays { StaysLent R.kept self.old.shape self.old.rack self.new.shape self.new.rack }
+    {
+        let places = self.shape.places();
+        for i in 0..self.shape.nodes() {
+            if (*self.rack).stands(i) {
+                let start = i * places;
+                self.draw_node(i, selects, &mut space[start..start + places])?;
+            }
         }
+        Ok(())
     }
-    Ok(())
 }

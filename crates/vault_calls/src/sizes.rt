@@ -37,23 +37,5 @@ pub fn outages<R: Rack>(shape: Shape, rack: &R) -> OutageList
     ensures count { result.count ≡ shape.q * shape.t }
     ensures list { list_of result ≡ listed (λ i. not (standing (R.model rack.now) i)) (shape.q * shape.t) }
 {
-    let mut out = OutageList::none(shape);
-    for i in 0..shape.nodes() {
-        if !rack.stands(i) {
-            let _ = out.push(i);
-        }
-    }
-    out
-}
-
-// All nodes.
-pub fn all_nodes(shape: Shape) -> OutageList
-    ensures count { result.count ≡ shape.q * shape.t }
-    ensures list { list_of result ≡ listed (λ i. true) (shape.q * shape.t) }
-{
-    let mut all = OutageList::none(shape);
-    for i in 0..shape.nodes() {
-        let _ = all.push(i);
-    }
-    all
+    OutageList::filtered(shape, |i| !rack.stands(i))
 }

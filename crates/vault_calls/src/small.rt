@@ -31,8 +31,5 @@ pub fn drop_node<R: Rack>(shape: Shape, rack: &mut R, node: usize) -> Result<Ans
         return Err(Refusal::NodeOut);
     }
     rack.take_out(node)?;
-    Ok(Answer {
-        filled: 0,
-        drawn: 0,
-    })
+    Ok(Answer::default())
 }

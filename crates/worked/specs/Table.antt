@@ -1,11 +1,9 @@
 -- Worked examples in one table, and what each says by the definitions of fields, shapes, the code and the vault's calls. Assumes nothing.
 use Rattle.std.specs.Prelude.{◌≡◌, ℕ, ◌^◌, ◌<◌, true, false, List, [], ◌∷◌, ◌++◌, length, Result, slice_index}
 use Rattle.code.specs.Code.{Words, laid, helps, Encodes}
-use Rattle.field.specs.ByteField.{byte_arith}
+use Rattle.field.specs.ByteField.{Byte, byte_arith}
 use Rattle.field.specs.Field.{Arith}
-use Rattle.field.specs.PrimeField.{prime_arith}
-use Rattle.field.specs.declared.element.Byte.{Byte}
-use Rattle.field.specs.declared.element.Residue.{Residue}
+use Rattle.field.specs.PrimeField.{Residue, prime_arith}
 use Rattle.rack.specs.Model.{Model}
 use Rattle.refusal.specs.Numbers.{number_of}
 use Rattle.refusal.specs.declared.reason.Refusal.{Refusal}

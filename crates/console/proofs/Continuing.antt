@@ -1,68 +1,77 @@
 -- A text answered line by line: how the lines still to come continue those before. Assumes nothing.
-use Rattle.std.proofs.Common.{◌≡◌, ℕ, ◌+◌, ◌-◌, ◌<◌, ◌≤◌, min, cond, List, [], ◌∷◌, ◌++◌, length, get_or, take, drop, sym, refl, ap, ◌∙◌, subst, ⊎_elim, append_assoc, arith}
-use native.Mathlib.Nat.{sub-zero, min-eq_left, min-eq_right}
-use Rattle.std.proofs.lemmas.List.Edits.{between_more}
-use Rattle.std.proofs.lemmas.List.{append-nil, drop_all, drop_more, take_all}
-use Rattle.std.specs.List.{between}
-use Rattle.std.proofs.lemmas.Bool.{cases_lt, eq-eqb, ne_eqb}
+use Rattle.std.proofs.Common.{◌≡◌, ℕ, ◌+◌, ◌-◌, ◌<◌, ◌≤◌, ◌==◌, min, not, Bool, true, false, cond, List, [], ◌∷◌, ◌++◌, length, get_or, take, drop, Some, None, zero, suc, sym, refl, ap, ◌∙◌, subst, ⊎_elim, append_assoc, add-one, arith, lt-ltb}
+use native.Mathlib.Nat.{min-eq_left, min-eq_right}
+use Rattle.std.proofs.lemmas.List.{append-nil, take_all, take_rest}
+use Rattle.std.proofs.lemmas.List.Quantifiers.{position-Some}
+use Rattle.std.proofs.lemmas.List.Sums.{prefix_len_passes}
+use Rattle.std.specs.List.{position, position_or_len}
+use Rattle.std.proofs.lemmas.Bool.{cases_lt}
 use Rattle.console.specs.Session.{State, closed, Answered}
 use Rattle.console.specs.Transcript.{lines_after, lines_of, Transcribed, none, next}
 
--- however the lines from i on are answered, all lines are answered so
-abbrev pub Continues : List ℕ → ℕ → ℕ → List ℕ → State → Type 0
-Continues text start i out s =
-    (rest : List ℕ) (final : State) → Transcribed s (lines_after (between start i text) (drop i text)) rest final → Transcribed closed (lines_of text) (out ++ rest) final
+-- the byte that ends a line
+abbrev ends : ℕ → Bool
+ends b = b == 10
 
-lines_end : (begun : List ℕ) (b : ℕ) (bs : List ℕ) → b ≡ 10 → lines_after begun (b ∷ bs) ≡ begun ∷ lines_after [] bs
+-- the first line of a text, where bytes of it have come before
+line_cut : (begun text : List ℕ) (end : ℕ) → end < length text → ends (get_or text end 0) ≡ true → ((k : ℕ) → k < end → ends (get_or text k 0) ≡ false)
+    → lines_after begun text ≡ (begun ++ take end text) ∷ lines_of (drop (suc end) text)
 unfolding lines_after
-lines_end begun b bs e = ap (λ x. cond x (begun ∷ lines_after [] bs) (lines_after (begun ++ b ∷ []) bs)) (eq-eqb b 10 e)
+line_cut begun [] end h here before = absurd (omega arith)
+line_cut begun (b ∷ bs) zero h here before = rw here (ap (λ l. l ∷ lines_of bs) (sym (append-nil begun)))
+line_cut begun (b ∷ bs) (suc e) h here before =
+    rw (before 0 (omega arith))
+    (line_cut (begun ++ b ∷ []) bs e (omega arith) here (λ k lt. before (suc k) (omega arith)) ∙ ap (λ l. l ∷ lines_of (drop (suc e) bs)) (append_assoc begun (b ∷ []) (take e bs)))
 
-lines_byte : (begun : List ℕ) (b : ℕ) (bs : List ℕ) → (b ≡ 10 → ⊥) → lines_after begun (b ∷ bs) ≡ lines_after (begun ++ b ∷ []) bs
+-- a text without a line's end has no complete line
+line_open : (begun text : List ℕ) → ((k : ℕ) → k < length text → ends (get_or text k 0) ≡ false) → lines_after begun text ≡ []
 unfolding lines_after
-lines_byte begun b bs e = ap (λ x. cond x (begun ∷ lines_after [] bs) (lines_after (begun ++ b ∷ []) bs)) (ne_eqb b 10 e)
+line_open begun [] other = refl
+line_open begun (b ∷ bs) other = rw (other 0 (omega arith)) (line_open (begun ++ b ∷ []) bs (λ k lt. other (suc k) (omega arith)))
 
-lines_none : (begun : List ℕ) → lines_after begun [] ≡ []
-unfolding lines_after
-lines_none begun = refl
+line_at : (text : List ℕ) (end : ℕ) → position ends text ≡ Some end → lines_of text ≡ take end text ∷ lines_of (drop (end + 1) text)
+line_at text end e =
+    let f = position-Some ends text end 0 e in
+    rw add-one (line_cut [] text end f.0 f.1 f.2)
 
--- past byte 10, when the line before it was answered
-pub continues_line : (text : List ℕ) (start i : ℕ) (out out' line bytes : List ℕ) (s s' : State) → i < length text → get_or text i 0 ≡ 10 → line ≡ between start i text → Answered s line bytes s' → out' ≡ out ++ bytes → Continues text start i out s → Continues text (i + 1) (i + 1) out' s'
-continues_line text start i out out' line bytes s s' lt ten is a eo before rest final h =
-    let empty : (i + 1) - (i + 1) ≡ 0 = omega arith in
-    let tail = drop (i + 1) text in
-    let h0 : Transcribed s' (lines_after [] tail) rest final = subst (λ n. Transcribed s' (lines_after (take n tail) tail) rest final) empty h in
-    let a1 : Answered s (between start i text) bytes s' = subst (λ l. Answered s l bytes s') is a in
-    let cut : lines_after (between start i text) (drop i text) ≡ between start i text ∷ lines_after [] tail =
-    ap (lines_after (between start i text)) (drop_more text i 0 lt) ∙ lines_end (between start i text) (get_or text i 0) tail ten in
-    let all = before (bytes ++ rest) final (subst (λ ls. Transcribed s ls (bytes ++ rest) final) (sym cut) (next bytes a1 h0)) in
+other_than : (b : Bool) → not b ≡ true → b ≡ false
+other_than true e = cc
+other_than false e = refl
+
+no_line : (text : List ℕ) → position ends text ≡ None → lines_of text ≡ []
+no_line text e =
+    let n = position_or_len ends text in
+    line_open [] text (λ k lt.
+    ⊎_elim
+    (λ less. let here : position ends text ≡ Some n = ap (λ t. cond t (Some n) None) (lt-ltb n (length text) less) in cc)
+    (λ all. other_than (ends (get_or text k 0)) (prefix_len_passes (λ x. not (ends x)) text k 0 (omega arith)))
+    (cases_lt n (length text)))
+
+-- however the lines of what is left are answered, all lines are answered so
+abbrev pub Continues : List ℕ → List ℕ → List ℕ → State → Type 0
+Continues text left out s = (rest : List ℕ) (final : State) → Transcribed s (lines_of left) rest final → Transcribed closed (lines_of text) (out ++ rest) final
+
+-- past a line that was answered, which is `&left[..end]`, to `&left[end + 1..]`, as the checker reads them
+pub continues_line : (text left out out' bytes : List ℕ) (s s' : State) (end : ℕ) → Some end ≡ position ends left → Answered s (take end left) bytes s' → out' ≡ out ++ bytes
+    → Continues text left out s → Continues text (take (length left - (end + 1)) (drop (end + 1) left)) out' s'
+continues_line text left out out' bytes s s' end at a eo before rest final h =
+    let line = take end left in
+    let after = take (length left - (end + 1)) (drop (end + 1) left) in
+    let cut : lines_of left ≡ line ∷ lines_of after =
+    line_at left end (sym at) ∙ ap (λ l. line ∷ lines_of l) (sym (take_rest left (end + 1))) in
+    let all = before (bytes ++ rest) final (subst (λ ls. Transcribed s ls (bytes ++ rest) final) (sym cut) (next bytes a h)) in
     subst (λ o. Transcribed closed (lines_of text) o final) (sym (append_assoc out bytes rest) ∙ ap (λ o. o ++ rest) (sym eo)) all
 
--- past another byte
-pub continues_byte : (text : List ℕ) (start i : ℕ) (out : List ℕ) (s : State) → start ≤ i → i < length text → (get_or text i 0 ≡ 10 → ⊥) → Continues text start i out s → Continues text start (i + 1) out s
-continues_byte text start i out s le lt other before rest final h =
-    let tail = drop (i + 1) text in
-    let cut : lines_after (between start i text) (drop i text) ≡ lines_after (between start (i + 1) text) tail =
-    ap (lines_after (between start i text)) (drop_more text i 0 lt)
-    ∙ lines_byte (between start i text) (get_or text i 0) tail other
-    ∙ ap (λ begun. lines_after begun tail) (sym (between_more text start i 0 le lt)) in
-    before rest final (subst (λ ls. Transcribed s ls rest final) (sym cut) h)
-
--- the same under equal names
-pub continues_at : (text : List ℕ) (start start' i : ℕ) (out out' : List ℕ) (s s' : State) → start' ≡ start → out' ≡ out → s' ≡ s → Continues text start i out s → Continues text start' i out' s'
-continues_at text start start' i out out' s s' e eo es h =
-    subst (λ x. Continues text x i out' s') (sym e) (subst (λ x. Continues text start i x s') (sym eo) (subst (λ x. Continues text start i out x) (sym es) h))
-
 -- at the end
-pub continues_all : (text : List ℕ) (start i : ℕ) (out : List ℕ) (s : State) → length text ≤ i → Continues text start i out s → (final : State) × Transcribed closed (lines_of text) out final
-continues_all text start i out s le before =
-    let over : lines_after (between start i text) (drop i text) ≡ [] = ap (lines_after (between start i text)) (drop_all i text le) ∙ lines_none (between start i text) in
-    let all = before [] s (subst (λ ls. Transcribed s ls [] s) (sym over) none) in
+pub continues_all : (text left out : List ℕ) (s : State) → None ≡ position ends left → Continues text left out s → (final : State) × Transcribed closed (lines_of text) out final
+continues_all text left out s at before =
+    let all = before [] s (subst (λ ls. Transcribed s ls [] s) (sym (no_line left (sym at))) none) in
     (s, subst (λ o. Transcribed closed (lines_of text) o s) (append-nil out) all)
 
 -- the first bytes of an input, where it may have fewer
-pub counted : (input : List ℕ) (end limit : ℕ) → end ≡ min (length input) limit → take (end - 0) input ≡ take limit input
+pub counted : (input : List ℕ) (end limit : ℕ) → end ≡ min (length input) limit → take end input ≡ take limit input
 counted input end limit e =
-    ap (λ n. take n input) (sub-zero end ∙ e)
+    ap (λ n. take n input) e
     ∙ ⊎_elim
     (λ less. let short : length input ≤ limit = omega arith in ap (λ n. take n input) (min-eq_left short) ∙ take_all (length input) input (omega arith) ∙ sym (take_all limit input short))
     (λ long. ap (λ n. take n input) (min-eq_right long))

@@ -7,10 +7,9 @@ use Rattle.rack.specs.Model.{fitting}
 use Rattle.rack.specs.Table.{not_made}
 use Rattle.rack.specs.declared.table_error.TableError.{TableError}
 use Rattle.rack.specs.declared.table_error.TableError.TheVariants.{Refused, NoMemory}
-use Rattle.refusal.specs.declared.reason.Refusal.{Refusal}
 use Rattle.refusal.specs.declared.reason.Refusal.TheVariants.{Size}
 
-pub shape_fits : (s : Shape) → fitting (s.q * s.t) (s.q ^ s.t) ≡ true
+shape_fits : (s : Shape) → fitting (s.q * s.t) (s.q ^ s.t) ≡ true
 shape_fits s =
     let n = s.q * s.t in
     let w = s.q ^ s.t in
@@ -19,9 +18,8 @@ shape_fits s =
     (and_from (leb 1 n) (leb n 16) (le-leb 1 n some) (le-leb n 16 s.few))
     (and_from (leb 1 w) (leb w 256) (le-leb 1 w (places_positive (shaped s))) (le-leb w 256 (places_bound (shaped s))))
 
--- so it is never the counts for which no table is made
-pub never_refused : (s : Shape) {n w : ℕ} {error : TableError} {why : Refusal} → n ≡ s.q * s.t → w ≡ s.q ^ s.t → error ≡ not_made n w → error ≡ Refused why → ⊥
-never_refused s {n} {w} {error} {why} en ew e refused =
+-- so where no table is made, memory is wanting
+pub table_wants : (s : Shape) {n w : ℕ} {error : TableError} → n ≡ s.q * s.t → w ≡ s.q ^ s.t → error ≡ not_made n w → error ≡ NoMemory
+table_wants s {n} {w} {error} en ew e =
     let fits : fitting n w ≡ true = ap (λ k. fitting k w) en ∙ ap (λ k. fitting (s.q * s.t) k) ew ∙ shape_fits s in
-    let made : not_made n w ≡ NoMemory = ap (λ b. cond b NoMemory (Refused Size)) fits in
-    let z : ◌≡◌ {A = ℕ} 0 1 = cc in omega arith
+    e ∙ ap (λ b. cond b NoMemory (Refused Size)) fits

@@ -1,5 +1,5 @@
 -- What the console answers to a line, and the state that it leaves. Assumes nothing.
-use Rattle.std.specs.Prelude.{◌≡◌, ℕ, ◌*◌, ◌^◌, cond, ◌⊎◌, List, [], length, Some, None, Ok, Err, vec_items, Option, Result}
+use Rattle.std.specs.Prelude.{◌≡◌, ℕ, ◌*◌, ◌^◌, false, cond, ◌⊎◌, List, [], length, Some, None, Ok, Err, vec_items, Option, Result}
 use Rattle.field.specs.Field.{Arith}
 use Rattle.field.specs.ByteField.{byte_arith}
 use Rattle.field.specs.PrimeField.{prime_arith}
@@ -10,6 +10,8 @@ use Rattle.lines.specs.Printed.{bad_line, no_line, ok_line}
 use Rattle.rack.specs.Model.{Model, fresh}
 use Rattle.rack.specs.Table.{table_model}
 use Rattle.rack.specs.declared.table.TableRack.{TableRack}
+use Rattle.rack.specs.declared.table_error.TableError.{TableError}
+use Rattle.rack.specs.declared.table_error.TableError.TheVariants.{Refused, NoMemory}
 use Rattle.refusal.specs.Numbers.{number_of}
 use Rattle.refusal.specs.declared.reason.Refusal.{Refusal}
 use Rattle.refusal.specs.declared.reason.Refusal.TheVariants as reason
@@ -18,8 +20,8 @@ use Rattle.vault_calls.specs.Calls.{answer, Store, Drop, Alter, Repair, Recover,
 use Rattle.vault_calls.specs.declared.answer.Answer.{Answer}
 use Rattle.vault.specs.declared.owner.Vault.{Vault}
 use Rattle.console.specs.declared.calls.Reply.{Reply}
-use Rattle.console.specs.declared.session.Inner.{Inner}
-use Rattle.console.specs.declared.session.Inner.TheVariants as inner
+use Rattle.console.specs.declared.session.AnyVault.{AnyVault}
+use Rattle.console.specs.declared.session.AnyVault.TheVariants as vault
 use Rattle.console.specs.declared.session.Session.{Session}
 
 -- no vault yet; or one over a field, of q rows and t columns, on a rack
@@ -28,13 +30,13 @@ pub data State : Type 0 where
   opened : Kind → ℕ → ℕ → Model → State
 
 -- the state of a session
-abbrev pub held : Inner → State
-held inner.Closed = closed
-held (inner.Byte v) = opened kind.Byte v.shape.q v.shape.t (table_model v.rack)
-held (inner.Prime v) = opened kind.Prime v.shape.q v.shape.t (table_model v.rack)
+abbrev pub held : Option AnyVault → State
+held None = closed
+held (Some (vault.Byte v)) = opened kind.Byte v.shape.q v.shape.t (table_model v.rack)
+held (Some (vault.Prime v)) = opened kind.Prime v.shape.q v.shape.t (table_model v.rack)
 
 abbrev pub state_of : Session → State
-state_of s = held s.inner
+state_of s = held s.vault
 
 -- a call was made, and this holds of what it answered
 abbrev pub Gives : (Result Answer Refusal → Type 0) → Option (Result Answer Refusal) → Type 0
@@ -63,6 +65,11 @@ opening q t = cond (is_shape q t) (Ok (answer 0 0)) (Err reason.Shape)
 
 abbrev pub after_opening : Kind → ℕ → ℕ → State
 after_opening k q t = cond (is_shape q t) (opened k q t (fresh (q * t) (q ^ t))) closed
+
+-- why no vault was opened: the numbers are no shape, or memory is wanting
+abbrev pub Unopened : ℕ → ℕ → TableError → Type 0
+Unopened q t (Refused why) = (is_shape q t ≡ false) × (why ≡ reason.Shape)
+Unopened q t NoMemory = Unit {0}
 
 -- what a request is answered before there is a vault: only a shape is taken
 abbrev pub Begun : Request → Option (Result Answer Refusal) → List ℕ → State → Type 0

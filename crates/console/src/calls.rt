@@ -1,13 +1,13 @@
 // The calls that lines ask of an open vault.
-ghost use Rattle.std.specs.Prelude.{◌≡◌, ◌*◌, ◌^◌, [], length, IfOk, OnErr};
-ghost use Rattle.lines.specs.Requests.{requested, reads, recovers, repairs, stores};
+ghost use Rattle.std.specs.Prelude.{◌≡◌, ℕ, ◌*◌, ◌^◌, List, [], Some, length, IfOk, OnErr};
+ghost use Rattle.lines.specs.Requests.{requested, reads};
 ghost use Rattle.console.specs.Session.{Served};
+ghost use Rattle.console.specs.Making.{Makes};
 
 use field::Field;
 use lines::Command;
 use rack::TableRack;
 use refusal::Refusal;
-use shape::Shape;
 use std::alloc::{AllocError, Global};
 use vault::Vault;
 use vault_calls::Answer;
@@ -19,13 +19,15 @@ pub struct Reply {
     pub words: Vec<u16>,
 }
 
-// A reply without words.
-pub fn plain(heap: Global, answer: Option<Result<Answer, Refusal>>) -> Reply
-    ensures { (result.answer ≡ answer) × (result.words.items ≡ []) }
-{
-    Reply {
-        answer,
-        words: Vec::new(heap),
+impl Reply {
+    // A reply without words.
+    pub fn plain(heap: Global, answer: Option<Result<Answer, Refusal>>) -> Reply
+        ensures { (result.answer ≡ answer) × (result.words.items ≡ []) }
+    {
+        Reply {
+            answer,
+            words: Vec::new(heap),
+        }
     }
 }
 
@@ -47,52 +49,18 @@ fn read<F: Field + Drop>(
     })
 }
 
-// A work space with a word for each place of each node.
-fn work_space(heap: Global, shape: Shape) -> Result<Vec<u16>, AllocError>
-    ensures { IfOk result (λ s. length s.items ≡ shape.q * shape.t * shape.q ^ shape.t) }
+// Makes a call with a work space that has a word for each place of each node. Where memory is wanting, it is not made.
+fn with_space<
+    F: Field + Drop,
+    C: FnOnce(&mut Vault<F, TableRack>, &mut [u16]) -> Result<Answer, Refusal>,
+>(heap: Global, vault: &mut Vault<F, TableRack>, make: C) -> Result<Reply, AllocError>
+    requires { C.IsAlwaysCallable make }
+    ensures made { IfOk result (λ y. (space : List ℕ) × (r : _) × (length space ≡ vault.old.shape.q * vault.old.shape.t * vault.old.shape.q ^ vault.old.shape.t) × Makes C.FnOnce make vault.old space r vault.new × (y.answer ≡ Some r) × (y.words.items ≡ [])) }
+    ensures unmade { OnErr result (vault.new ≡ vault.old) }
 {
-    Vec::from_elem(heap, 0u16, shape.words())
-}
-
-// Stores a message. Where memory is wanting, nothing is stored.
-fn store<F: Field + Drop>(
-    heap: Global,
-    vault: &mut Vault<F, TableRack>,
-    message: &[u16],
-) -> Result<Reply, AllocError>
-    ensures served { IfOk result (λ y. Served F.arith (stores message.now) vault.old y vault.new) }
-    ensures unserved { OnErr result (vault.new ≡ vault.old) }
-{
-    let mut space = work_space(heap, vault.shape())?;
-    let answer = vault.store(message, space.as_mut_slice());
-    Ok(plain(heap, Some(answer)))
-}
-
-// Repairs a node. Where memory is wanting, nothing is repaired.
-fn repair<F: Field + Drop>(
-    heap: Global,
-    vault: &mut Vault<F, TableRack>,
-    node: u16,
-) -> Result<Reply, AllocError>
-    ensures served { IfOk result (λ y. Served F.arith (repairs node) vault.old y vault.new) }
-    ensures unserved { OnErr result (vault.new ≡ vault.old) }
-{
-    let mut space = work_space(heap, vault.shape())?;
-    let answer = vault.repair(usize::from(node), space.as_mut_slice());
-    Ok(plain(heap, Some(answer)))
-}
-
-// Recovers the nodes that are out. Where memory is wanting, nothing is recovered.
-fn recover<F: Field + Drop>(
-    heap: Global,
-    vault: &mut Vault<F, TableRack>,
-) -> Result<Reply, AllocError>
-    ensures served { IfOk result (λ y. Served F.arith recovers vault.old y vault.new) }
-    ensures unserved { OnErr result (vault.new ≡ vault.old) }
-{
-    let mut space = work_space(heap, vault.shape())?;
-    let answer = vault.recover(space.as_mut_slice());
-    Ok(plain(heap, Some(answer)))
+    let mut space = Vec::from_elem(heap, 0u16, vault.shape().words())?;
+    let answer = make(vault, space.as_mut_slice());
+    Ok(Reply::plain(heap, Some(answer)))
 }
 
 // Makes a call. No second vault is opened. Where memory is wanting, no call is made.
@@ -105,18 +73,18 @@ pub fn call<F: Field + Drop>(
     ensures unserved { OnErr result (vault.new ≡ vault.old) }
 {
     match command {
-        Command::Open(_, _, _) => Ok(plain(heap, None)),
+        Command::Open(_, _, _) => Ok(Reply::plain(heap, None)),
         Command::Read(start, count) => read(heap, vault, start, count),
-        Command::Store(message) => store(heap, vault, message.as_slice()),
-        Command::Repair(i) => repair(heap, vault, i),
-        Command::Recover => recover(heap, vault),
+        Command::Store(message) => with_space(heap, vault, |v, space| v.store(&message, space)),
+        Command::Repair(i) => with_space(heap, vault, |v, space| v.repair(usize::from(i), space)),
+        Command::Recover => with_space(heap, vault, |v, space| v.recover(space)),
         Command::DropNode(i) => {
             let answer = vault.drop_node(usize::from(i));
-            Ok(plain(heap, Some(answer)))
+            Ok(Reply::plain(heap, Some(answer)))
         }
         Command::Alter(i, p, w) => {
             let answer = vault.alter(usize::from(i), usize::from(p), w);
-            Ok(plain(heap, Some(answer)))
+            Ok(Reply::plain(heap, Some(answer)))
         }
     }
 }

@@ -1,18 +1,16 @@
 // A vault on a table rack, driven by lines.
-ghost use Rattle.std.specs.Prelude.{◌≡◌, ℕ, ◌*◌, ◌^◌, true, false, List, ◌++◌, is_ok, IfOk, string_bytes, MatchResult, OnOk, OnErr};
+ghost use Rattle.std.specs.Prelude.{◌≡◌, ℕ, ◌*◌, ◌^◌, true, List, ◌++◌, is_ok, IfOk, string_bytes, MatchResult, OnOk, OnErr};
 ghost use Rattle.lines.specs.Printed.{printed};
 ghost use Rattle.lines.specs.Requests.{requested};
 ghost use Rattle.rack.specs.Model.{fresh};
 ghost use Rattle.rack.specs.Table.{table_model};
-ghost use Rattle.refusal.specs.declared.reason.Refusal.TheVariants as reason;
 ghost use Rattle.shape.specs.Layout.{is_shape};
-ghost use Rattle.console.specs.Session.{Answered, Unprinted, Begun, Replied, closed, opening, after_opening, reply_line, state_of};
+ghost use Rattle.console.specs.Session.{Answered, Unopened, Unprinted, Begun, Replied, closed, opened, reply_line, state_of};
 
-use crate::calls::{Reply, call, plain};
+use crate::calls::{Reply, call};
 use field::{ByteField, Field, PrimeField};
 use lines::{Command, Kind, parse, print_bad, print_no, print_ok};
 use rack::{Rack, TableError, TableRack};
-use refusal::Refusal;
 use shape::Shape;
 use std::alloc::{AllocError, Global};
 use vault::Vault;
@@ -29,9 +27,9 @@ fn print_reply(out: &mut String, reply: Reply) -> Result<(), AllocError>
     }
 }
 
+// A vault over one of the two fields.
 #[derive(Drop)]
-enum Inner {
-    Closed,
+enum AnyVault {
     Byte(Vault<ByteField, TableRack>),
     Prime(Vault<PrimeField, TableRack>),
 }
@@ -40,7 +38,7 @@ enum Inner {
 #[derive(Drop)]
 pub struct Session {
     heap: Global,
-    inner: Inner,
+    vault: Option<AnyVault>,
 }
 
 // A vault of q rows and t columns on a new table rack, or why there is none.
@@ -49,24 +47,12 @@ fn open<F: Field + Drop>(
     field: F,
     q: u16,
     t: u16,
-) -> Result<Result<Vault<F, TableRack>, Refusal>, AllocError>
-    ensures { IfOk result (λ x. MatchResult x (λ v. (is_shape q t ≡ true) × (v.shape.q ≡ q) × (v.shape.t ≡ t) × (table_model v.rack ≡ fresh (q * t) (q ^ t))) (λ e. (is_shape q t ≡ false) × (e ≡ reason.Shape))) }
+) -> Result<Vault<F, TableRack>, TableError>
+    ensures { MatchResult result (λ v. (is_shape q t ≡ true) × (v.shape.q ≡ q) × (v.shape.t ≡ t) × (table_model v.rack ≡ fresh (q * t) (q ^ t))) (λ e. Unopened q t e) }
 {
-    let shape = match Shape::new(usize::from(q), usize::from(t)) {
-        Ok(shape) => shape,
-        Err(why) => return Ok(Err(why)),
-    };
-    let rack = match TableRack::new(heap, shape.nodes(), shape.places()) {
-        Ok(rack) => rack,
-        Err(error) => match error {
-            TableError::Refused(why) => return Ok(Err(why)),
-            TableError::NoMemory => return Err(AllocError),
-        },
-    };
-    match Vault::open(shape, field, rack) {
-        Ok(vault) => Ok(Ok(vault)),
-        Err(back) => Ok(Err(back.why)),
-    }
+    let shape = Shape::new(usize::from(q), usize::from(t)).map_err(TableError::Refused)?;
+    let rack = TableRack::new(heap, shape.nodes(), shape.places())?;
+    Vault::open(shape, field, rack).map_err(|back| TableError::Refused(back.why))
 }
 
 impl Session {
@@ -74,38 +60,19 @@ impl Session {
     pub fn new(heap: Global) -> Session
         ensures { state_of result ≡ closed }
     {
-        Session {
-            heap,
-            inner: Inner::Closed,
-        }
+        Session { heap, vault: None }
     }
 
     // Opens the vault, if the numbers are a shape.
-    fn first(&mut self, kind: Kind, q: u16, t: u16) -> Result<Result<Answer, Refusal>, AllocError>
+    fn first(&mut self, kind: Kind, q: u16, t: u16) -> Result<(), TableError>
         requires { state_of self.old ≡ closed }
-        ensures opened { IfOk result (λ x. (x ≡ opening q t) × (state_of self.new ≡ after_opening kind q t)) }
-        ensures unopened { OnErr result (state_of self.new ≡ closed) }
+        ensures { MatchResult result (λ _. (is_shape q t ≡ true) × (state_of self.new ≡ opened kind q t (fresh (q * t) (q ^ t)))) (λ e. Unopened q t e × (state_of self.new ≡ closed)) }
     {
-        let opened = Answer {
-            filled: 0,
-            drawn: 0,
-        };
-        match kind {
-            Kind::Byte => match open(self.heap, ByteField, q, t)? {
-                Ok(o) => {
-                    self.inner = Inner::Byte(o);
-                    return Ok(Ok(opened));
-                }
-                Err(why) => return Ok(Err(why)),
-            },
-            Kind::Prime => match open(self.heap, PrimeField, q, t)? {
-                Ok(o) => {
-                    self.inner = Inner::Prime(o);
-                    return Ok(Ok(opened));
-                }
-                Err(why) => return Ok(Err(why)),
-            },
-        }
+        self.vault = Some(match kind {
+            Kind::Byte => AnyVault::Byte(open(self.heap, ByteField, q, t)?),
+            Kind::Prime => AnyVault::Prime(open(self.heap, PrimeField, q, t)?),
+        });
+        Ok(())
     }
 
     // Replies before there is a vault: only a shape is taken.
@@ -114,13 +81,15 @@ impl Session {
         ensures begun { IfOk result (λ y. Begun (requested command) y.answer y.words.items (state_of self.new)) }
         ensures unbegun { OnErr result (state_of self.new ≡ closed) }
     {
-        match command {
-            Command::Open(kind, q, t) => {
-                let answer = self.first(kind, q, t)?;
-                Ok(plain(self.heap, Some(answer)))
-            }
-            _ => Ok(plain(self.heap, None)),
-        }
+        let answer = match command {
+            Command::Open(kind, q, t) => match self.first(kind, q, t) {
+                Ok(()) => Some(Ok(Answer::default())),
+                Err(TableError::Refused(why)) => Some(Err(why)),
+                Err(TableError::NoMemory) => return Err(AllocError),
+            },
+            _ => None,
+        };
+        Ok(Reply::plain(self.heap, answer))
     }
 
     // Replies to a command.
@@ -128,10 +97,10 @@ impl Session {
         ensures replied { IfOk result (λ y. Replied (requested command) (state_of self.old) y.answer y.words.items (state_of self.new)) }
         ensures unreplied { OnErr result (state_of self.new ≡ state_of self.old) }
     {
-        match &mut self.inner {
-            Inner::Byte(v) => call(self.heap, v, command),
-            Inner::Prime(v) => call(self.heap, v, command),
-            Inner::Closed => self.begin(command),
+        match &mut self.vault {
+            Some(AnyVault::Byte(v)) => call(self.heap, v, command),
+            Some(AnyVault::Prime(v)) => call(self.heap, v, command),
+            None => self.begin(command),
         }
     }
 

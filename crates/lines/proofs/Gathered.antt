@@ -1,64 +1,90 @@
--- Numbers that are gathered item by item.
-use Rattle.std.proofs.Common.{◌≡◌, ℕ, ◌+◌, ◌-◌, ◌<◌, ◌≤◌, cond, List, [], ◌∷◌, ◌++◌, length, take, drop, Some, None, Option, sym, refl, ap, ◌∙◌, subst, append_assoc, arith, le-ltb, lt-ltb}
-use native.Mathlib.Nat.{sub-zero}
-use Rattle.std.proofs.lemmas.List.{append-nil, take_rest}
+-- The numbers after a line's word, gathered item by item.
+use Rattle.std.proofs.Common.{◌≡◌, ℕ, ◌==◌, suc, cond, List, [], ◌∷◌, ◌++◌, length, drop, Some, None, Option, Bor, sym, refl, ap, ◌∙◌, subst, append_assoc, add-one, arith}
+use Rattle.std.proofs.lemmas.Iterator.{YieldsList}
+use Rattle.std.proofs.lemmas.Iterator.Consumers.{YieldsList-turn, YieldsList-end}
+use Rattle.std.proofs.lemmas.List.{append-nil, drop_all, drop_more, length_push}
+use Rattle.std.specs.Iterator.{Yields}
+use Rattle.std.specs.List.{slice_split, onto_first}
 use Rattle.std.specs.Option.{option_map}
-use Rattle.lines.specs.Items.{items, items_after}
+use Rattle.lines.specs.Items.{items, before_first}
 use Rattle.lines.specs.Numbers.{number_in, numbers_in, with_first}
+use Rattle.lines.specs.Requests.{asked, request}
+use Rattle.lines.proofs.Asked.{request_cut}
+
+-- the items of a line are the parts that the library cuts at spaces
+begun : (b : ℕ) (ws : List (List ℕ)) → before_first (b ∷ []) ws ≡ onto_first b ws
+begun b [] = refl
+begun b (w ∷ ws) = refl
+
+pub items_split : (line : List ℕ) → slice_split (λ b. b == 32) line ≡ items line
+unfolding items
+items_split [] = refl
+items_split (b ∷ bs) =
+    ap (λ ws. cond (b == 32) ([] ∷ ws) (onto_first b ws)) (items_split bs) ∙ ap (λ ws. cond (b == 32) ([] ∷ items bs) ws) (sym (begun b (items bs)))
 
 -- all numbers are those found so far, and those of the items that are left
 abbrev pub Gathered : Option (List ℕ) → List ℕ → List (List ℕ) → Type 0
 Gathered all found left = all ≡ option_map (λ ns. found ++ ns) (numbers_in left)
 
-gathered_other : (all : Option (List ℕ)) (found : List ℕ) (left : List (List ℕ)) (item : List ℕ) (more : List (List ℕ)) → Gathered all found left → left ≡ item ∷ more → None ≡ number_in item → None ≡ all
-unfolding numbers_in
-gathered_other all found left item more g cut e =
-    sym (g ∙ ap (λ is. option_map (λ ns. found ++ ns) (numbers_in is)) cut ∙ ap (λ o. option_map (λ ns. found ++ ns) (with_first o (numbers_in more))) (sym e))
+pub gathered_none : (left : List (List ℕ)) → Gathered (numbers_in left) [] left
+gathered_none left = elim (numbers_in left) as (λ o. o ≡ option_map (λ ns. [] ++ ns) o) [ None ↦ refl | Some ns ↦ refl ]
 
-gathered_more : (all : Option (List ℕ)) (found : List ℕ) (left : List (List ℕ)) (item : List ℕ) (more : List (List ℕ)) (n : ℕ) → Gathered all found left → left ≡ item ∷ more → Some n ≡ number_in item → Gathered all (found ++ n ∷ []) more
+gathered_other : (all : Option (List ℕ)) (found item : List ℕ) (more : List (List ℕ)) → Gathered all found (item ∷ more) → None ≡ number_in item → None ≡ all
 unfolding numbers_in
-gathered_more all found left item more n g cut e =
-    g ∙ ap (λ is. option_map (λ ns. found ++ ns) (numbers_in is)) cut
-    ∙ ap (λ o. option_map (λ ns. found ++ ns) (with_first o (numbers_in more))) (sym e)
+gathered_other all found item more g e = sym (g ∙ ap (λ o. option_map (λ ns. found ++ ns) (with_first o (numbers_in more))) (sym e))
+
+gathered_more : (all : Option (List ℕ)) (found item : List ℕ) (more : List (List ℕ)) (n : ℕ) → Gathered all found (item ∷ more) → Some n ≡ number_in item → Gathered all (found ++ n ∷ []) more
+unfolding numbers_in
+gathered_more all found item more n g e =
+    g ∙ ap (λ o. option_map (λ ns. found ++ ns) (with_first o (numbers_in more))) (sym e)
     ∙ elim (numbers_in more) as (λ o. option_map (λ ns. found ++ ns) (option_map (λ ns. n ∷ ns) o) ≡ option_map (λ ns. (found ++ n ∷ []) ++ ns) o)
     [ None ↦ refl | Some ns ↦ ap Some (sym (append_assoc found (n ∷ []) ns)) ]
 
-gathered_all : (all : Option (List ℕ)) (found : List ℕ) → Gathered all found [] → all ≡ Some found
+gathered_all : (all : Option (List ℕ)) (found : List ℕ) → Gathered all found [] → Some found ≡ all
 unfolding numbers_in
-gathered_all all found g = g ∙ ap Some (append-nil found)
+gathered_all all found g = sym (g ∙ ap Some (append-nil found))
 
--- `&line[0..end]` and `&line[end + 1..]`, as the checker reads them
-pub front : (line : List ℕ) (end : ℕ) → take (end - 0) line ≡ take end line
-front line end = ap (λ n. take n line) (sub-zero end)
+-- a line is cut, its first item is taken, and a loop goes over the others
+module _ {S : Type 0} {steps : S → Option (Bor (List ℕ)) → S → Type 0} {s u i : S} {first : Option (Bor (List ℕ))} (step : steps s first u) (line : List ℕ)
+    (road : YieldsList steps (λ x. x.now) s (slice_split (λ b. b == 32) line)) (word : Bor (List ℕ)) (is : first ≡ Some word) (from : i ≡ u) where
+  cut : YieldsList steps (λ x. x.now) s (items line)
+  cut = subst (λ ws. YieldsList steps (λ x. x.now) s ws) (items_split line) road
 
-abbrev pub after : List ℕ → ℕ → List ℕ
-after line end = take (length line - (end + 1)) (drop (end + 1) line)
+  at_word : (xs : List (Bor (List ℕ))) (t : S) → Yields steps i xs t → Yields steps s (word ∷ xs) t
+  at_word xs t y = (i, subst (λ j. steps s (Some word) j) (sym from) (subst (λ o. steps s o u) is step), y)
 
--- the items after the one that ends at a place: before the line's end, or there
-pub items_after_space : (line : List ℕ) (end : ℕ) → end < length line → items_after end line ≡ items (after line end)
-items_after_space line end h = ap (λ t. cond t (items (drop (end + 1) line)) []) (lt-ltb end (length line) h) ∙ sym (ap items (take_rest line (end + 1)))
+  -- the items after the first
+  abbrev more : List (List ℕ)
+  more = drop 1 (items line)
 
-items_after_all : (line : List ℕ) (end : ℕ) → length line ≤ end → items_after end line ≡ []
-items_after_all line end h = ap (λ t. cond t (items (drop (end + 1) line)) []) (le-ltb end (length line) h)
+  word_first : items line ≡ word.now ∷ more
+  word_first =
+      let t = YieldsList-turn cut [] s refl first u word is step in
+      drop_more (items line) 0 word.now t.0 ∙ ap (λ w. w ∷ drop 1 (items line)) (sym t.1)
 
-pub no_numbers : (line found : List ℕ) (end : ℕ) → found ≡ [] → end ≡ length line → Some found ≡ numbers_in (items_after end line)
-unfolding numbers_in
-no_numbers line found end e at = ap Some e ∙ sym (ap numbers_in (items_after_all line end (omega arith)))
+  -- one more item
+  module _ (xs : List (Bor (List ℕ))) {t w : S} (y : Yields steps i xs t) {r : Option (Bor (List ℕ))} (goes : steps t r w) (found : List ℕ) (g : Gathered (numbers_in more) found (drop (suc (length xs)) (items line))) where
+    item_next : (item : Bor (List ℕ)) → r ≡ Some item → drop (suc (length xs)) (items line) ≡ item.now ∷ drop (suc (suc (length xs))) (items line)
+    item_next item here =
+        let t = YieldsList-turn cut (word ∷ xs) t (at_word xs t y) r w item here goes in
+        rw add-one at (drop_more (items line) (suc (length xs)) item.now t.0) ∙ ap (λ v. v ∷ drop (suc (suc (length xs))) (items line)) (sym t.1)
 
--- a turn: the first item of the rest of a line ends at a place of it
-module _ (all : Option (List ℕ)) (found rest : List ℕ) (end : ℕ) (g : Gathered all found (items rest)) (cut : items rest ≡ take end rest ∷ items_after end rest) where
-  pub turn_other : None ≡ number_in (take (end - 0) rest) → None ≡ all
-  turn_other e = gathered_other all found (items rest) (take end rest) (items_after end rest) g cut (e ∙ ap number_in (front rest end))
+    -- which is no number
+    pub turn_other : (item : Bor (List ℕ)) → r ≡ Some item → None ≡ number_in item.now → None ≡ request line
+    turn_other item here e =
+        request_cut line word.now more None word_first
+        (gathered_other (numbers_in more) found item.now (drop (suc (suc (length xs))) (items line)) (subst (Gathered (numbers_in more) found) (item_next item here) g) e)
 
-  turned : (n : ℕ) (longer : List ℕ) → Some n ≡ number_in (take (end - 0) rest) → longer ≡ found ++ n ∷ [] → Gathered all longer (items_after end rest)
-  turned n longer e more =
-      let G : List ℕ → Type 0 = λ l. Gathered all l (items_after end rest) in
-      subst G (sym more) (gathered_more all found (items rest) (take end rest) (items_after end rest) n g cut (e ∙ ap number_in (front rest end)))
+    pub turn_next : (item : Bor (List ℕ)) (n : ℕ) (longer : List ℕ) → r ≡ Some item → Some n ≡ number_in item.now → longer ≡ found ++ n ∷ [] → Gathered (numbers_in more) longer (drop (suc (length (xs ++ item ∷ []))) (items line))
+    turn_next item n longer here e grown =
+        let left = drop (suc (suc (length xs))) (items line) in
+        let G : List ℕ → Type 0 = λ ns. Gathered (numbers_in more) ns left in
+        let H : ℕ → Type 0 = λ k. Gathered (numbers_in more) longer (drop (suc k) (items line)) in
+        subst H (sym (length_push xs item ∙ add-one (length xs))) (subst G (sym grown) (gathered_more (numbers_in more) found item.now left n (subst (Gathered (numbers_in more) found) (item_next item here) g) e))
 
-  pub turn_last : (n : ℕ) (longer : List ℕ) → Some n ≡ number_in (take (end - 0) rest) → longer ≡ found ++ n ∷ [] → end ≡ length rest → Some longer ≡ all
-  turn_last n longer e more at =
-      let none = items_after_all rest end (omega arith) in
-      sym (gathered_all all longer (subst (Gathered all longer) none (turned n longer e more)))
-
-  pub turn_next : (n : ℕ) (longer : List ℕ) → Some n ≡ number_in (take (end - 0) rest) → longer ≡ found ++ n ∷ [] → end < length rest → Gathered all longer (items (after rest end))
-  turn_next n longer e more h = subst (Gathered all longer) (items_after_space rest end h) (turned n longer e more)
+    -- and none more
+    pub turn_last : r ≡ None → asked word.now found ≡ request line
+    turn_last over =
+        let t = YieldsList-end cut (word ∷ xs) t (at_word xs t y) r w over goes in
+        let none : drop (suc (length xs)) (items line) ≡ [] = drop_all (suc (length xs)) (items line) (omega (arith, t.1)) in
+        request_cut line word.now more (Some found) word_first (gathered_all (numbers_in more) found (subst (Gathered (numbers_in more) found) none g))

@@ -1,5 +1,5 @@
 -- The items of a line, which spaces part. Assumes nothing.
-use Rattle.std.specs.Prelude.{ℕ, ◌+◌, cond, List, [], ◌∷◌, ◌++◌, length, drop, ◌==◌, nat_lt}
+use Rattle.std.specs.Prelude.{ℕ, cond, List, [], ◌∷◌, ◌++◌, ◌==◌}
 
 -- bytes put before the first of some items
 abbrev pub before_first : List ℕ → List (List ℕ) → List (List ℕ)
@@ -10,7 +10,3 @@ before_first bytes (item ∷ more) = (bytes ++ item) ∷ more
 unfoldable pub items : List ℕ → List (List ℕ)
 items [] = [] ∷ []
 items (b ∷ bs) = cond (b == 32) ([] ∷ items bs) (before_first (b ∷ []) (items bs))
-
--- the items after the one that ends at a place of the line; there are none where that is the line's end
-abbrev pub items_after : ℕ → List ℕ → List (List ℕ)
-items_after end line = cond (nat_lt end (length line)) (items (drop (end + 1) line)) []

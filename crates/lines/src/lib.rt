@@ -2,7 +2,6 @@
 #![tactic(auto)]
 
 pub mod command;
-mod items;
 mod numbers;
 mod printing;
 mod reading;

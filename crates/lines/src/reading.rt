@@ -4,18 +4,22 @@ ghost use Rattle.std.specs.Option.{option_map};
 ghost use Rattle.lines.specs.Requests.{request, requested};
 
 use crate::command::Command;
-use crate::items::item_end;
-use crate::numbers::numbers_after;
+use crate::numbers::number;
 use crate::words::command_of;
 use std::alloc::{AllocError, Global};
 
-// What a line, without its line end, asks for; none where it is no command.
+// What a line, without its line end, asks for; none where it is no command, and an error where memory is wanting.
 pub fn parse(heap: Global, line: &[u8]) -> Result<Option<Command>, AllocError>
     ensures { IfOk result (λ o. option_map requested o ≡ request line.now) }
 {
-    let end = item_end(line);
-    let Some(found) = numbers_after(heap, line, end)? else {
-        return Ok(None);
-    };
-    Ok(command_of(&line[0..end], found))
+    let mut items = line.split(|b| *b == b' ');
+    let word = items.next().unwrap();
+    let mut found = Vec::new(heap);
+    for item in items {
+        let Some(n) = number(item) else {
+            return Ok(None);
+        };
+        found.push(n)?;
+    }
+    Ok(command_of(word, found))
 }

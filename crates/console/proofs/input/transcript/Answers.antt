@@ -7,4 +7,4 @@ use Rattle.console.proofs.input.transcript.Goals as goal
 pub returns : goal.returns
 returns c =
     let For : List ℕ → Type 0 = λ text. IfOk c.answers.result (λ s. (final : State) × Transcribed closed (lines_of text) (string_bytes s) final) in
-    subst For (counted c.args.input.now c.min-end.result 65536 c.min-end.ensures) c.answers.ensures
+    subst For (counted c.args.input.now c.min.result 65536 c.min.ensures) c.answers.ensures

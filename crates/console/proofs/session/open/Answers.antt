@@ -1,6 +1,7 @@
-use Rattle.console.proofs.Opening.{never_refused}
+use Rattle.std.proofs.Common.{rules}
+use Rattle.console.proofs.Opening.{table_wants}
 use Rattle.console.proofs.session.open.Goals as goal
 
-pub returns-in-Refused : goal.returns-in-Refused
-returns-in-Refused g c =
-    absurd (never_refused c.in-Ok.shape c.nodes.ensures c.places.ensures c.in-Err-new.ensures c.in-Refused.is)
+pub returns-in_err-rack : goal.returns-in_err-rack
+returns-in_err-rack g c =
+    let wants = table_wants c.in_ok-shape.shape c.nodes.ensures c.places.ensures c.in_err-rack.ensures in search rules

@@ -1,56 +1,51 @@
-use Rattle.std.proofs.Common.{vec_items, codes, refl, ◌∙◌}
+use Rattle.std.proofs.Common.{◌≤◌, length, vec_items, codes, refl, ap, ◌∙◌, arith, rules, tests}
 use Rattle.lines.specs.Requests.{asked}
-use Rattle.lines.proofs.Asked.{asked_named, asked_other}
+use Rattle.lines.proofs.Asked.{asked_named, of_one, of_two, of_three, other_none, other_one, other_two, other_three, other_more}
 use Rattle.lines.proofs.words.command_of.Goals as goal
+use Rattle.lines.proofs.words.command_of.Goals.{in_default-2-via-in-empty+else-spells-2, in_default-2-via-in-len1-2+else-spells-4, in_default-2-via-in-len2-3+else-spells-7, in_default-2-via-in-len3+else-spells-8, in_default-2-via-else-this-lt1+else-this-lt2+else-this-lt3+else-this-lt4}
 
-pub returns-then-spells : goal.returns-then-spells
+pub returns-in_default : goal.returns-in_default
 unfolding asked
-returns-then-spells c = asked_named c.args.word.now (codes "store") (vec_items c.args.found) _ c.if-spells.ensures refl
+returns-in_default c = asked_named c.args.word.now (codes "store") (vec_items c.args.found) (vec_items c.args.found) c.if-spells.ensures refl
 
-pub returns-then-spells-2 : goal.returns-then-spells-2
+pub returns-in-empty : goal.returns-in-empty
 unfolding asked
-returns-then-spells-2 c =
-    c.to_open.ensures
-    ∙ asked_named c.args.word.now (codes "byte") c.as_slice-numbers.result.now _ c.if-spells-2.ensures c.as_slice-numbers.ensures.value
+returns-in-empty c = search rules
 
-pub returns-then-spells-3 : goal.returns-then-spells-3
+pub returns-in-len1 : goal.returns-in-len1
 unfolding asked
-returns-then-spells-3 c =
-    c.to_open-then-spells-3.ensures
-    ∙ asked_named c.args.word.now (codes "prime") c.as_slice-numbers.result.now _ c.if-spells-3.ensures c.as_slice-numbers.ensures.value
+returns-in-len1 c = asked_named c.args.word.now (codes "drop") _ (vec_items c.args.found) c.if-spells-3.ensures (of_one c.as_slice.result.now (omega arith) (omega arith) ∙ c.as_slice.ensures.value)
 
-pub returns-then-spells-4 : goal.returns-then-spells-4
+pub returns-in-len1-2 : goal.returns-in-len1-2
 unfolding asked
-returns-then-spells-4 c =
-    c.to_drop.ensures
-    ∙ asked_named c.args.word.now (codes "drop") c.as_slice-numbers.result.now _ c.if-spells-4.ensures c.as_slice-numbers.ensures.value
+returns-in-len1-2 c = asked_named c.args.word.now (codes "repair") _ (vec_items c.args.found) c.if-spells-4.ensures (of_one c.as_slice.result.now (omega arith) (omega arith) ∙ c.as_slice.ensures.value)
 
-pub returns-then-spells-5 : goal.returns-then-spells-5
+pub returns-in-len2 : goal.returns-in-len2
 unfolding asked
-returns-then-spells-5 c =
-    c.to_alter.ensures
-    ∙ asked_named c.args.word.now (codes "alter") c.as_slice-numbers.result.now _ c.if-spells-5.ensures c.as_slice-numbers.ensures.value
+returns-in-len2 c = asked_named c.args.word.now (codes "byte") _ (vec_items c.args.found) c.if-spells-5.ensures (of_two c.as_slice.result.now (omega arith) (omega arith) ∙ c.as_slice.ensures.value)
 
-pub returns-then-spells-6 : goal.returns-then-spells-6
+pub returns-in-len2-2 : goal.returns-in-len2-2
 unfolding asked
-returns-then-spells-6 c =
-    c.to_repair.ensures
-    ∙ asked_named c.args.word.now (codes "repair") c.as_slice-numbers.result.now _ c.if-spells-6.ensures c.as_slice-numbers.ensures.value
+returns-in-len2-2 c = asked_named c.args.word.now (codes "prime") _ (vec_items c.args.found) c.if-spells-6.ensures (of_two c.as_slice.result.now (omega arith) (omega arith) ∙ c.as_slice.ensures.value)
 
-pub returns-then-spells-7 : goal.returns-then-spells-7
+pub returns-in-len2-3 : goal.returns-in-len2-3
 unfolding asked
-returns-then-spells-7 c =
-    c.to_recover.ensures
-    ∙ asked_named c.args.word.now (codes "recover") c.as_slice-numbers.result.now _ c.if-spells-7.ensures c.as_slice-numbers.ensures.value
+returns-in-len2-3 c = asked_named c.args.word.now (codes "read") _ (vec_items c.args.found) c.if-spells-7.ensures (of_two c.as_slice.result.now (omega arith) (omega arith) ∙ c.as_slice.ensures.value)
 
-pub returns-then-spells-8 : goal.returns-then-spells-8
+pub returns-in-len3 : goal.returns-in-len3
 unfolding asked
-returns-then-spells-8 c =
-    c.to_read.ensures
-    ∙ asked_named c.args.word.now (codes "read") c.as_slice-numbers.result.now _ c.if-spells-8.ensures c.as_slice-numbers.ensures.value
+returns-in-len3 c = asked_named c.args.word.now (codes "alter") _ (vec_items c.args.found) c.if-spells-8.ensures (of_three c.as_slice.result.now (omega arith) (omega arith) ∙ c.as_slice.ensures.value)
 
 pub returns : goal.returns
 returns c =
-    asked_other c.args.word.now (vec_items c.args.found) c.if-spells.ensures c.if-spells-2.ensures
-    c.if-spells-3.ensures c.if-spells-4.ensures c.if-spells-5.ensures c.if-spells-6.ensures
-    c.if-spells-7.ensures c.if-spells-8.ensures
+    let long = ap length c.as_slice.ensures.value in
+    elim c.in_default-2.branch [
+      | in_default-2-via-in-empty+else-spells-2 w ↦ other_none c.args.word.now c.if-spells.ensures (vec_items c.args.found) (omega arith) w.if-spells-2.ensures
+      | in_default-2-via-in-len1-2+else-spells-4 w ↦ other_one c.args.word.now c.if-spells.ensures (vec_items c.args.found) (omega arith) (omega arith) w.if-spells-3.ensures w.if-spells-4.ensures
+      | in_default-2-via-in-len2-3+else-spells-7 w ↦ other_two c.args.word.now c.if-spells.ensures (vec_items c.args.found) (omega arith) (omega arith) w.if-spells-5.ensures w.if-spells-6.ensures w.if-spells-7.ensures
+      | in_default-2-via-in-len3+else-spells-8 w ↦ other_three c.args.word.now c.if-spells.ensures (vec_items c.args.found) (omega arith) (omega arith) w.if-spells-8.ensures
+      | in_default-2-via-else-this-lt1+else-this-lt2+else-this-lt3+else-this-lt4 w ↦ (
+          let h : 4 ≤ length c.as_slice.result.now = search (rules, tests) in
+          other_more c.args.word.now c.if-spells.ensures (vec_items c.args.found) (omega arith)
+          )
+    ]

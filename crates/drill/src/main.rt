@@ -2,15 +2,15 @@
 #![tactic(auto)]
 
 use anyhow::anyhow;
-use examples::examples;
+use examples::{MESSAGE, examples};
 use field::ByteField;
-use images::{Call, call_on_rooms, clear};
+use images::{call_on_rooms, cleared};
 use rack::{Rack, TableRack};
 use rack_image::{ImageRack, check_image};
 use rack_pair::join;
 use shape::Shape;
 use std::alloc::Global;
-use told::{refused, told};
+use told::Told;
 use vault::Vault;
 
 mod examples;
@@ -19,10 +19,8 @@ mod told;
 
 // The lines of the examples on a rack.
 fn on_rack<R: Rack + Drop>(heap: Global, shape: Shape, rack: R) -> anyhow::Result<String> {
-    match Vault::open(shape, ByteField, rack) {
-        Ok(mut vault) => Ok(examples(heap, &mut vault)?),
-        Err(back) => Ok(refused(heap, back.why)?),
-    }
+    let mut vault = Vault::open(shape, ByteField, rack).map_err(|back| back.why)?;
+    Ok(examples(heap, &mut vault)?)
 }
 
 // The lines of the examples on two racks as one.
@@ -32,27 +30,19 @@ fn on_pair<A: Rack + Drop, B: Rack + Drop>(
     first: A,
     second: B,
 ) -> anyhow::Result<String> {
-    match join(first, second) {
-        Ok(pair) => on_rack(heap, shape, pair),
-        Err(back) => Ok(refused(heap, back.why)?),
-    }
+    on_rack(heap, shape, join(first, second).map_err(|back| back.why)?)
 }
 
 // A table rack with 4 places.
 fn table(heap: Global, nodes: usize) -> anyhow::Result<TableRack> {
-    match TableRack::new(heap, nodes, 4) {
-        Ok(rack) => Ok(rack),
-        Err(_) => Err(anyhow!("no table")),
-    }
+    TableRack::new(heap, nodes, 4).map_err(|_| anyhow!("no table"))
 }
 
 // The examples on a table, on an image, and on a pair of a table and an image.
 fn on_every_rack(rt: &HostRuntime, shape: Shape) -> anyhow::Result<()> {
     let heap = rt.alloc();
-    let mut whole = [0u8; 48];
-    let mut half = [0u8; 24];
-    clear(&mut whole);
-    clear(&mut half);
+    let mut whole = cleared::<48>();
+    let mut half = cleared::<24>();
     let expected = on_rack(heap, shape, table(heap, 4)?)?;
     rt.print(expected.as_str())?;
     let image = on_rack(heap, shape, ImageRack::over(&mut whole, 4))?;
@@ -67,38 +57,31 @@ fn on_every_rack(rt: &HostRuntime, shape: Shape) -> anyhow::Result<()> {
 
 // Bytes of an image, and one too few.
 fn on_lengths(rt: &HostRuntime) -> anyhow::Result<()> {
-    let mut bytes = [0u8; 48];
-    clear(&mut bytes);
+    let bytes = cleared::<48>();
     let whole = check_image(&bytes, 4, 4).is_ok();
     println!(rt; "48 bytes are an image: {whole}")?;
     if let Err(why) = check_image(&bytes[0..47], 4, 4) {
-        let words = refused(rt.alloc(), why)?;
-        println!(rt; "47 bytes are {words}")?;
+        println!(rt; "47 bytes are {why}")?;
     }
     Ok(())
 }
 
 // Stores on two images, loses a node of the second and repairs it.
 fn on_rooms(rt: &HostRuntime, shape: Shape) -> anyhow::Result<()> {
-    let heap = rt.alloc();
-    let mut first = [0u8; 24];
-    let mut second = [0u8; 24];
-    clear(&mut first);
-    clear(&mut second);
-    let stored = told(
-        heap,
-        call_on_rooms(shape, &mut first, &mut second, Call::Store),
-    )?;
+    let mut space = [0u16; 16];
+    let mut first = cleared::<24>();
+    let mut second = cleared::<24>();
+    let stored = Told(call_on_rooms(shape, &mut first, &mut second, |vault| {
+        vault.store(&MESSAGE, &mut space)
+    }));
     let whole = (first, second);
-    let lost = told(
-        heap,
-        call_on_rooms(shape, &mut first, &mut second, Call::DropNode(2)),
-    )?;
+    let lost = Told(call_on_rooms(shape, &mut first, &mut second, |vault| {
+        vault.drop_node(2)
+    }));
     let changed = second != whole.1;
-    let repaired = told(
-        heap,
-        call_on_rooms(shape, &mut first, &mut second, Call::Repair(2)),
-    )?;
+    let repaired = Told(call_on_rooms(shape, &mut first, &mut second, |vault| {
+        vault.repair(2, &mut space)
+    }));
     let back = first == whole.0 && second == whole.1;
     println!(rt; "two images as one rack: store: {stored}; drop: {lost}; repair: {repaired}")?;
     println!(rt;
@@ -107,10 +90,9 @@ fn on_rooms(rt: &HostRuntime, shape: Shape) -> anyhow::Result<()> {
     Ok(())
 }
 
+// The examples on every rack, then the lengths, then the rooms.
 fn run(rt: &HostRuntime) -> anyhow::Result<()> {
-    let Ok(shape) = Shape::new(2, 2) else {
-        return Err(anyhow!("no shape"));
-    };
+    let shape = Shape::new(2, 2)?;
     on_every_rack(rt, shape)?;
     on_lengths(rt)?;
     on_rooms(rt, shape)

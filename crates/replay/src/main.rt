@@ -6,13 +6,8 @@ use std::fs;
 
 // How many lines of two texts are the same, place by place.
 fn agreeing(expected: &str, found: &str) -> usize {
-    let mut agreed = 0usize;
-    for (a, b) in expected.lines().zip(found.lines()) {
-        if a == b {
-            agreed = agreed.saturating_add(1);
-        }
-    }
-    agreed
+    let pairs = expected.lines().zip(found.lines());
+    pairs.filter(|(a, b)| a == b).count()
 }
 
 // One stream: its commands in NAME.in, its answers in NAME.out.
@@ -31,6 +26,7 @@ fn replay(rt: &HostRuntime, name: &str) -> anyhow::Result<()> {
     Ok(())
 }
 
+// Every stream whose name is in the list.
 fn run(rt: &HostRuntime) -> anyhow::Result<()> {
     let names = fs::read_to_string(rt, "streams.txt")?;
     for name in names.as_str().lines() {

@@ -18,7 +18,8 @@ fn digit_out(shape: Shape, out: &OutageList, column: usize, place: usize) -> boo
     requires { column < shape.t }
     ensures { result ≡ among (outages out.now) (node_at shape.q (digit shape.q place column) column) }
 {
-    out.contains(column * shape.rows() + shape.digit(place, column))
+    // Where nothing is out, no digit is asked.
+    out.len() > 0 && out.contains(column * shape.rows() + shape.digit(place, column))
 }
 
 // The score of a plane: in how many columns the node in the row of the plane's digit is out.

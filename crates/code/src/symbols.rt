@@ -29,10 +29,9 @@ pub(crate) fn companion(shape: Shape, node: usize, place: usize) -> Option<(usiz
     requires place { place < shape.q ^ shape.t }
     ensures { MatchOption result (row shape.q node ≡ digit shape.q place (column shape.q node)) (λ c. (row shape.q node ≢ digit shape.q place (column shape.q node)) × (c.0 ≡ companion_node shape.q node place) × (c.1 ≡ companion_place shape.q node place) × (c.0 < shape.q * shape.t) × (c.1 < shape.q ^ shape.t)) }
 {
-    if shape.helps(node, place) {
-        return None;
-    }
-    shape.companion(node, place).ok()
+    let (c, d) = shape.companion(node, place).ok()?;
+    // Where the digit is the node's row, the companion is the node itself.
+    if c == node { None } else { Some((c, d)) }
 }
 
 // The place of a node's companion.

@@ -1,7 +1,7 @@
 // How the nodes and the places of a shape are numbered.
 #![tactic(auto, unfolding(crate::specs::Layout::row, crate::specs::Layout::column, crate::specs::Layout::node_at))]
 
-ghost use Rattle.std.specs.Prelude.{◌≡◌, ◌-◌, ◌*◌, ◌^◌, ◌<◌, true, false, MatchResult};
+ghost use Rattle.std.specs.Prelude.{◌≡◌, ◌-◌, ◌*◌, ◌^◌, ◌<◌, true, false, IfSome, MatchResult, SomeIff};
 ghost use Rattle.refusal.specs.declared.reason.Refusal.TheVariants as reason;
 ghost use Rattle.shape.specs.Layout.{is_shape, row, column, digit, node_at, with_digit, companion_node, companion_place, helps};
 
@@ -81,10 +81,22 @@ impl Shape {
         ensures { result ≡ digit self.q place column }
     {
         // By a match, in which the weight has a name of which it is proved that it is not 0.
-        match self.q.checked_pow(column.min(64) as u32) {
+        match self.weight(column) {
             Some(weight) => place / weight % self.q,
-            // The weight is above every place.
             None => 0,
+        }
+    }
+
+    // The weight of the digit in a column; none where it is above every place.
+    fn weight(self, column: usize) -> Option<usize>
+        ensures value { SomeIff result (self.q ^ column < 2 ^ 64) (self.q ^ column) }
+        ensures positive { IfSome result (λ weight. 0 < weight) }
+    {
+        // In the shape's own columns it fits, so that nothing is tested.
+        if column < self.t {
+            Some(self.q.pow(column as u32))
+        } else {
+            self.q.checked_pow(column.min(64) as u32)
         }
     }
 
@@ -104,15 +116,16 @@ impl Shape {
         column * self.q + row
     }
 
-    // A place with another digit in a column.
-    fn with_digit(self, place: usize, column: usize, digit: usize) -> usize
+    // The digit of a place in a column, and the place with another value there. Both by one weight.
+    fn with_digit(self, place: usize, column: usize, value: usize) -> (usize, usize)
         requires in_node { place < self.q ^ self.t }
         requires in_columns { column < self.t }
-        requires in_base { digit < self.q }
-        ensures { result ≡ with_digit self.q place column digit }
+        requires in_base { value < self.q }
+        ensures { (result.0 ≡ digit self.q place column) × (result.1 ≡ with_digit self.q place column value) }
     {
         let weight = self.q.pow(column as u32);
-        place - self.digit(place, column) * weight + digit * weight
+        let own = place / weight % self.q;
+        (own, place - own * weight + value * weight)
     }
 
     // The node and the place that a node is coupled with at a place.
@@ -123,10 +136,7 @@ impl Shape {
             return Err(Refusal::NoSuchPlace);
         }
         let column = self.column(node);
-        let digit = self.digit(place, column);
-        Ok((
-            self.node_at(digit, column),
-            self.with_digit(place, column, self.row(node)),
-        ))
+        let (digit, other) = self.with_digit(place, column, self.row(node));
+        Ok((self.node_at(digit, column), other))
     }
 }

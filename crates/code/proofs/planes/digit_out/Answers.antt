@@ -17,9 +17,8 @@ overflow_add-column c =
     omega arith
 
 -- the node in the row of the plane's digit
-node_is : (c : goal.After-contains) → c.args.column * c.rows.result + c.digit.result ≡ node_at c.args.shape.q (digit c.args.shape.q c.args.place c.args.column) c.args.column
+pub returns-then-len-gt0 : goal.returns-then-len-gt0
 unfolding node_at
-node_is c = cc
-
-pub returns : goal.returns
-returns c = c.contains.ensures ∙ ap (among (outages c.args.out.now)) (node_is c)
+returns-then-len-gt0 c =
+    let e : c.args.column * c.rows.result + c.digit.result ≡ node_at c.args.shape.q (digit c.args.shape.q c.args.place c.args.column) c.args.column = cc in
+    c.contains.ensures ∙ ap (among (outages c.args.out.now)) e

@@ -1,26 +1,40 @@
-use Rattle.std.proofs.Common.{◌≡◌, ℕ, ◌*◌, ◌^◌, ◌<◌, ◌≢◌, ◌∙◌, Result, Ok, Err, MatchOption, MatchResult, sym, subst}
+use Rattle.std.proofs.Common.{◌≡◌, ℕ, ◌*◌, ◌^◌, ◌<◌, ◌≢◌, ◌∙◌, Result, Ok, Err, MatchResult, Some, IfSome, sym, ap, subst, arith}
 use Rattle.std.specs.Result.{result_ok}
-use Rattle.std.proofs.lemmas.Bool.{eqb-false}
 use Rattle.refusal.specs.declared.reason.Refusal.{Refusal}
 use Rattle.refusal.specs.declared.reason.Refusal.TheVariants.{NoSuchPlace}
-use Rattle.shape.specs.Layout.{row, column, digit, companion_node, companion_place}
-use Rattle.shape.proofs.Bounds.{Shaped, shaped}
+use Rattle.shape.specs.Layout.{row, column, digit, node_at, companion_node, companion_place}
+use Rattle.shape.proofs.Bounds.{shaped, rows_positive}
+use Rattle.shape.proofs.Digits.{node_own, row_companion}
 use Rattle.code.proofs.Places.{companion_node_within, companion_place_within}
 use Rattle.code.proofs.symbols.companion.Goals as goal
 
--- a symbol that does not stand alone has a companion
-coupled : {q t : ℕ} → Shaped q t → (i p : ℕ) → i < q * t → p < q ^ t → row q i ≢ digit q p (column q i) → (r : Result (ℕ × ℕ) Refusal)
+-- what the shape answers, where it answers
+answered : (q t i p : ℕ) (r : Result (ℕ × ℕ) Refusal)
     → MatchResult r (λ c. (i < q * t) × (p < q ^ t) × (c.0 ≡ companion_node q i p) × (c.1 ≡ companion_place q i p)) (λ e. (e ≡ NoSuchPlace) × (i < q * t → p < q ^ t → ⊥))
-    → MatchOption (result_ok r) (row q i ≡ digit q p (column q i)) (λ c. (row q i ≢ digit q p (column q i)) × (c.0 ≡ companion_node q i p) × (c.1 ≡ companion_place q i p) × (c.0 < q * t) × (c.1 < q ^ t))
-coupled s i p li lp ne (Ok c) h = (ne, h.2, h.3, companion_node_within s i p li lp c.0 h.2, companion_place_within s i p li lp c.1 h.3)
-coupled s i p li lp ne (Err e) h = absurd (h.1 li lp)
+    → IfSome (result_ok r) (λ c. (c.0 ≡ companion_node q i p) × (c.1 ≡ companion_place q i p))
+answered q t i p (Ok c) h = (h.2, h.3)
+answered q t i p (Err e) h = tt
 
-pub returns : goal.returns
-returns c =
-    let s = c.args.shape in
-    let q = s.q in
-    let i = c.args.node in
-    let p = c.args.place in
-    let ne : row q i ≢ digit q p (column q i) = λ e. eqb-false (digit q p (column q i)) (row q i) (sym c.helps.ensures ∙ c.if-helps.false) (sym e) in
-    subst (λ o. MatchOption o (row q i ≡ digit q p (column q i)) (λ c. (row q i ≢ digit q p (column q i)) × (c.0 ≡ companion_node q i p) × (c.1 ≡ companion_place q i p) × (c.0 < q * s.t) × (c.1 < q ^ s.t)))
-    (sym c.ok.ensures.value) (coupled (shaped s) i p c.requires.node c.requires.place ne c.companion.result c.companion.ensures)
+found : (q t i p : ℕ) (r : Result (ℕ × ℕ) Refusal)
+    → MatchResult r (λ c. (i < q * t) × (p < q ^ t) × (c.0 ≡ companion_node q i p) × (c.1 ≡ companion_place q i p)) (λ e. (e ≡ NoSuchPlace) × (i < q * t → p < q ^ t → ⊥))
+    → (n m : ℕ) → Some (n, m) ≡ result_ok r → (n ≡ companion_node q i p) × (m ≡ companion_place q i p)
+found q t i p r h n m e = subst (λ o. IfSome o (λ c. (c.0 ≡ companion_node q i p) × (c.1 ≡ companion_place q i p))) (sym e) (answered q t i p r h)
+
+-- a node is its own companion where its row is the digit, and nowhere else
+own : (q i p : ℕ) → 0 < q → row q i ≡ digit q p (column q i) → companion_node q i p ≡ i
+unfolding companion_node
+own q i p pos e = ap (λ x. node_at q x (column q i)) (sym e) ∙ node_own q pos i
+
+pub returns-then-c-node : goal.returns-then-c-node
+returns-then-c-node c =
+    let q = c.args.shape.q in
+    let f = found c.args.shape.q c.args.shape.t c.args.node c.args.place c.companion.result c.companion.ensures c.in_ok-c.c c.in_ok-c.d c.in_ok-c.ensures.value in
+    let e : c.args.node ≡ companion_node q c.args.node c.args.place = omega arith in
+    ap (row q) e ∙ row_companion q (rows_positive (shaped c.args.shape)) c.args.node c.args.place
+
+pub returns-else-c-node : goal.returns-else-c-node
+returns-else-c-node c =
+    let s = shaped c.args.shape in
+    let f = found c.args.shape.q c.args.shape.t c.args.node c.args.place c.companion.result c.companion.ensures c.in_ok-c.c c.in_ok-c.d c.in_ok-c.ensures.value in
+    let ne : row c.args.shape.q c.args.node ≢ digit c.args.shape.q c.args.place (column c.args.shape.q c.args.node) = λ e. let o = own c.args.shape.q c.args.node c.args.place (rows_positive s) e in omega arith in
+    (ne, f.0, f.1, companion_node_within s c.args.node c.args.place c.requires.node c.requires.place _ f.0, companion_place_within s c.args.node c.args.place c.requires.node c.requires.place _ f.1)

@@ -8,12 +8,20 @@ use std::alloc::Global;
 use std::io::Read;
 
 // The first `LIMIT` bytes of a reader, or all where there are fewer; further bytes are left unread.
-fn first_bytes<R: Read + Drop>(heap: Global, reader: R) -> anyhow::Result<Vec<u8>>
+fn first_bytes<R: Read + Drop>(heap: Global, mut reader: R) -> anyhow::Result<Vec<u8>>
     ensures { IfSome (R.remaining reader) (λ all. IfOk result (λ bytes. bytes.items ≡ take 65536 all)) }
 {
-    // With room for one byte more, so that the end is seen without growing.
-    let mut bytes = Vec::with_capacity(heap, LIMIT + 1)?;
-    reader.take(LIMIT as u64).read_to_end(&mut bytes)?;
+    let mut bytes = Vec::from_elem(heap, 0u8, LIMIT)?;
+    let mut len = 0;
+    // Each read is offered all the room that is left: a packet that is read in parts would lose its rest.
+    while len < LIMIT {
+        let n = reader.read(&mut bytes[len..])?;
+        if n == 0 {
+            break;
+        }
+        len += n;
+    }
+    bytes.truncate(len);
     Ok(bytes)
 }
 

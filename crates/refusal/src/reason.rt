@@ -6,13 +6,13 @@ ghost use Rattle.refusal.specs.Words.{fault_words, refusal_words};
 use std::error::Error;
 use std::fmt;
 
-// What is wrong with an image's byte, each under its number.
+// What is wrong with an image's byte.
 #[derive(Clone, Copy, PartialEq, Eq, Debug)]
 pub enum Cause {
-    Length = 1,
-    Mark = 2,
-    Number = 3,
-    Flag = 4,
+    Length,
+    Mark,
+    Number,
+    Flag,
 }
 
 // Where an image is malformed: the room, the record, and the byte counted from the image's start.
@@ -60,7 +60,8 @@ impl Cause {
     pub fn number(self) -> u8
         ensures { result ≡ cause_number self }
     {
-        self as u8
+        // A cast counts from 0.
+        self as u8 + 1
     }
 }
 

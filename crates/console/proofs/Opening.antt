@@ -9,7 +9,7 @@ use Rattle.rack.specs.declared.table_error.TableError.{TableError}
 use Rattle.rack.specs.declared.table_error.TableError.TheVariants.{Refused, NoMemory}
 use Rattle.refusal.specs.declared.reason.Refusal.TheVariants.{Size}
 
-shape_fits : (s : Shape) → fitting (s.q * s.t) (s.q ^ s.t) ≡ true
+pub shape_fits : (s : Shape) → fitting (s.q * s.t) (s.q ^ s.t) ≡ true
 shape_fits s =
     let n = s.q * s.t in
     let w = s.q ^ s.t in

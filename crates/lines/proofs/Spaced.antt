@@ -5,7 +5,7 @@ use Rattle.std.proofs.lemmas.Fmt.{AppendsLastDigit, decimal_from_appends, length
 use Rattle.std.specs.Fmt as written
 use Rattle.lines.specs.Printed.{digits, decimal, spaced, no_line, ok_line}
 
-spaced_append : (xs ys : List ℕ) → spaced (xs ++ ys) ≡ spaced xs ++ spaced ys
+pub spaced_append : (xs ys : List ℕ) → spaced (xs ++ ys) ≡ spaced xs ++ spaced ys
 unfolding spaced
 spaced_append [] ys = refl
 spaced_append (x ∷ xs) ys = ap (λ l. (32 ∷ decimal x) ++ l) (spaced_append xs ys) ∙ sym (append_assoc (32 ∷ decimal x) (spaced xs) (spaced ys))
@@ -14,11 +14,11 @@ appends : AppendsLastDigit digits
 appends = search rules
 
 -- a number as the library writes it
-decimal_is : (n : ℕ) → n < 2 ^ 64 → decimal n ≡ written.decimal n
+pub decimal_is : (n : ℕ) → n < 2 ^ 64 → decimal n ≡ written.decimal n
 unfolding decimal
 decimal_is n h = decimal_from_appends digits appends (n + 1) n h (length-decimal-le_succ n h)
 
-spaced_one : (n : ℕ) → n < 2 ^ 64 → spaced (n ∷ []) ≡ 32 ∷ written.decimal n
+pub spaced_one : (n : ℕ) → n < 2 ^ 64 → spaced (n ∷ []) ≡ 32 ∷ written.decimal n
 unfolding spaced
 spaced_one n h = ap (λ ds. 32 ∷ ds) (append-nil (decimal n) ∙ decimal_is n h)
 
